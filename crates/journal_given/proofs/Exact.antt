@@ -3,7 +3,8 @@ use Rattle.std.proofs.Common.{◌≡◌, ℕ, ◌+◌, ◌-◌, ◌*◌, ◌^◌
 use Rattle.std.proofs.Common.{◌∷◌, length, Option, Some, None, inl, inr, ◌↔◌, refl, ap, sym, ◌∙◌, arith, subst}
 use Rattle.std.proofs.Common.{if◌then◌else◌}
 use Rattle.std.specs.Prelude.{MatchOption, not, ◌||◌, ◌&&◌, slice_index, option_map}
-use Rattle.std.proofs.lemmas.Bool.{and_parts, and_from, eqb-true, eq-eqb, ne_eqb}
+use Rattle.std.proofs.lemmas.Bool.{and_parts, and_from, eqb-true, eq-eqb, ne_eqb, ltb-true, lt-ltb}
+use Rattle.std.proofs.lemmas.List.{length-drop}
 use Rattle.pdcp_pdu.specs.Grammar.{IsBitmap}
 use Rattle.l2_types.specs.declared.side.Side.{Side}
 use Rattle.l2_types.specs.declared.side.Side.TheVariants.{Nb, Ue}
@@ -18,18 +19,20 @@ use Rattle.promises.specs.Records.{is_got}
 use Rattle.journal_lives.specs.CountsCome.{CountsCome}
 use Rattle.journal_flows.specs.Accounts.{after_record as record_kept, after_group as group_kept}
 use Rattle.journal_takes.specs.declared.take.Take.TheVariants.{Report, Pdu}
-use Rattle.journal_takes.specs.TakeEvents.{sdu_of}
+use Rattle.journal_takes.specs.TakeEvents.{next_new, kept, sdu_of}
 use Rattle.journal_takes.specs.FlowTakes.{next_take, sdu_kept}
 use Rattle.journal_takes.proofs.Offers.{next_at}
 use Rattle.journal_takes.proofs.TakesTold.{takes_are_true}
 use Rattle.journal_given.specs.declared.given.Submission.{Submission}
 use Rattle.journal_given.specs.Supplies.{Supply, Bearer, History, account, histories, accounts, is_pdu, has_length}
 use Rattle.journal_given.specs.Supplies.{is_take, is_report, marked_from, is_same_list, is_short, says}
-use Rattle.journal_given.specs.Supplies.{is_right_report}
+use Rattle.journal_given.specs.Supplies.{is_right_report, has_waiting}
 use Rattle.journal_given.specs.Giving.{Giving, side_of, bearer_at, each_from, landed_on, may_take, take_right}
+use Rattle.journal_given.specs.Giving.{discard_right}
 use Rattle.journal_given.specs.Giving.{report_right, happens, with_kept, after_record, after_line, submits_last}
 use Rattle.journal_given.specs.Giving.{hands_on, none_submitted, after_group, after_records, given_within, all_given}
-use Rattle.journal_given.specs.RightTakes.{TakeIsRight, IsSaid, ReportIsRight, OnBearer, IsRightEvent, IsRightRecord}
+use Rattle.journal_given.specs.RightTakes.{TakeIsRight, IsSaid, ReportIsRight, DiscardIsRight, OnBearer, IsRightEvent}
+use Rattle.journal_given.specs.RightTakes.{IsRightRecord}
 use Rattle.journal_given.specs.RightTakes.{AreRightRecords, TakesAreRight}
 use Rattle.journal_given.specs.Laws.{takes_by, takes_at, AreTakesOf, TakesAreTold, VerdictIsExact}
 use Rattle.journal_given.proofs.Images.{giving_image, slot_image, at_image, within_image, given_image}
@@ -162,6 +165,25 @@ report_complete fms bitmap s h r =
     and_from (is_report (next_take (account s.takes))) (says fms bitmap s.bits s.said) (ap is_report (sym is))
     (said_complete fms bitmap s.bits s.said r.said)
 
+-- ---- a discard
+
+waiting_size : (s : Supply History) → IsSound s
+    → length (account s.takes).waiting
+    ≡ length (kept s.takes.first s.takes.events)
+    - (next_new s.takes.first s.takes.events - s.takes.first)
+waiting_size s h =
+    let told = takes_are_true s.takes.first s.takes.bits s.takes.events h.is_one in
+    ap (λ (l : List (List ℕ)). length l) told.waiting
+    ∙ length-drop ((account s.takes).next - s.takes.first) (kept s.takes.first s.takes.events)
+    ∙ ap (λ (n : ℕ). length (kept s.takes.first s.takes.events) - (n - s.takes.first)) told.next
+
+discard_sound : (s : Supply History) → IsSound s → has_waiting (account s.takes) ≡ true → DiscardIsRight s
+discard_sound s h e =
+    record { waits = omega (arith, waiting_size s h, ltb-true 0 (length (account s.takes).waiting) e) }
+
+discard_complete : (s : Supply History) → IsSound s → DiscardIsRight s → has_waiting (account s.takes) ≡ true
+discard_complete s h r = lt-ltb 0 (length (account s.takes).waiting) (omega (arith, waiting_size s h, r.waits))
+
 -- ---- on a bearer
 
 side_sound : (side : Side) (b : Bearer History) → AreSound (Some b) → IsSound (side_of side b)
@@ -182,6 +204,14 @@ report_on side fms bitmap None h = (λ e. tt, λ e. refl)
 report_on side fms bitmap (Some b) h = (
   report_sound fms bitmap (side_of side b) (side_sound side b h),
   report_complete fms bitmap (side_of side b) (side_sound side b h),
+)
+
+discard_on : (side : Side) (o : Option (Bearer History)) → AreSound o
+    → discard_right histories side o ≡ true ↔ OnBearer o side DiscardIsRight
+discard_on side None h = (λ e. tt, λ e. refl)
+discard_on side (Some b) h = (
+  discard_sound (side_of side b) (side_sound side b h),
+  discard_complete (side_of side b) (side_sound side b h),
 )
 
 -- ---- a record
@@ -206,7 +236,10 @@ event_exact side (events.Report lcid fms bitmap) g h =
     with_test g.right (report_right histories side fms bitmap (bearer_at lcid g.bearers))
     (OnBearer (bearer_at lcid g.bearers) side (ReportIsRight fms bitmap))
     (report_on side fms bitmap (bearer_at lcid g.bearers) (at_sound lcid g.bearers h))
-event_exact side (events.Discard lcid len) g h = with_none g.right
+event_exact side (events.Discard lcid len) g h =
+    with_test g.right (discard_right histories side (bearer_at lcid g.bearers))
+    (OnBearer (bearer_at lcid g.bearers) side DiscardIsRight)
+    (discard_on side (bearer_at lcid g.bearers) (at_sound lcid g.bearers h))
 event_exact side event g h = with_none g.right
 
 -- the accounts of flows aren't looked at
@@ -216,6 +249,8 @@ same_event side (events.Take lcid count len) g h is r =
     subst (λ bs. OnBearer (bearer_at lcid bs) side (TakeIsRight count len)) is r
 same_event side (events.Report lcid fms bitmap) g h is r =
     subst (λ bs. OnBearer (bearer_at lcid bs) side (ReportIsRight fms bitmap)) is r
+same_event side (events.Discard lcid len) g h is r =
+    subst (λ bs. OnBearer (bearer_at lcid bs) side DiscardIsRight) is r
 same_event side event g h is r = tt
 
 record_exact : (one : Record) (g : Giving History) → AllSound g.bearers

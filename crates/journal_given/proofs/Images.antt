@@ -33,7 +33,8 @@ use Rattle.journal_given.specs.Supplies.{report_gone}
 use Rattle.journal_given.specs.Supplies.{hears}
 use Rattle.journal_given.specs.Giving.{Giving, Bearers, on_side, bearer_begun, landed, bearer_at}
 use Rattle.journal_given.specs.Giving.{changed_on, each_from, landed_on, ended_on, Waits, offers, may_take, submits}
-use Rattle.journal_given.specs.Giving.{take_right, report_right, happens, tells, with_kept, after_record, after_line}
+use Rattle.journal_given.specs.Giving.{take_right, discard_right, report_right, happens, tells, with_kept, after_record}
+use Rattle.journal_given.specs.Giving.{after_line}
 use Rattle.journal_given.specs.Giving.{submits_last, hands_on, none_submitted, at_rest, after_group}
 use Rattle.journal_given.specs.Giving.{after_records, given_within, all_given, waits_at}
 
@@ -257,6 +258,12 @@ said_image side fms bitmap None = refl
 said_image Nb fms bitmap (Some b) = refl
 said_image Ue fms bitmap (Some b) = refl
 
+discard_image : (side : Side) (o : Option (Bearer History))
+    → discard_right histories side o ≡ discard_right accounts side (slot_image o)
+discard_image side None = refl
+discard_image Nb (Some b) = refl
+discard_image Ue (Some b) = refl
+
 happens_image : (side : Side) (event : Event) (g : Giving History)
     → giving_image (happens histories side event g) ≡ happens accounts side event (giving_image g)
 happens_image side (events.Take lcid count len) g =
@@ -281,6 +288,10 @@ happens_image side (events.Discard lcid len) g =
     let after = happens histories side (events.Discard lcid len) g in
     ap (λ (bs : Bearers FlowTakes). giving after.kept after.waits after.submitted after.hands_over bs after.right)
     (changed_image side lcid (told histories SduDiscarded) (told accounts SduDiscarded) (λ s. refl) g.bearers)
+    ∙ ap (λ (b : Bool). giving after.kept after.waits after.submitted after.hands_over
+    (changed_on side lcid (told accounts SduDiscarded) (all_images g.bearers)) (g.right && b))
+    (discard_image side (bearer_at lcid g.bearers)
+    ∙ ap (discard_right accounts side) (sym (at_image lcid g.bearers)))
 happens_image side event g = refl
 
 tells_image : (one : Record) (g : Giving History)

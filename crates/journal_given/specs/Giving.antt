@@ -174,6 +174,10 @@ abbrev pub report_right : {T : Type 0} → Keeper T → Side → ℕ → List �
 report_right k side fms bitmap None = true
 report_right k side fms bitmap (Some b) = is_right_report k fms bitmap (side_of side b)
 
+abbrev pub discard_right : {T : Type 0} → Keeper T → Side → Option (Bearer T) → Bool
+discard_right k side None = true
+discard_right k side (Some b) = k.waits (side_of side b).takes
+
 abbrev pub happens : {T : Type 0} → Keeper T → Side → Event → Giving T → Giving T
 happens k side (events.Take lcid count len) g = record g {
   bearers = changed_on side lcid (takes_pdu k count len) g.bearers;
@@ -187,6 +191,7 @@ happens k side (events.Report lcid fms bitmap) g = record g {
 happens k side (events.Discard lcid len) g = record g {
   bearers = changed_on side lcid (told k SduDiscarded) g.bearers;
   waits = one_less side lcid g.waits;
+  right = g.right && discard_right k side (bearer_at lcid g.bearers);
 }
 happens k side event g = g
 

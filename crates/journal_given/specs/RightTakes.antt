@@ -1,6 +1,8 @@
--- When the `take` and `report` records of acknowledged data in a journal are right, whoever made it
+-- When the `take`, `report` and `discard` records of acknowledged data in a journal are right,
+-- whoever made it
 -- (TS 36.323 5.1.1, 5.2.1.1, 5.3.1; docs/formats/JOURNAL.md): each is what is takeable next.
-use Rattle.std.specs.Prelude.{ℕ, ◌≡◌, ◌+◌, ◌*◌, ◌^◌, ◌%◌, List, [], ◌∷◌, length, Option, Some, None}
+use Rattle.std.specs.Prelude.{ℕ, ◌≡◌, ◌<◌, ◌+◌, ◌-◌, ◌*◌, ◌^◌, ◌%◌, List, [], ◌∷◌, length, Option}
+use Rattle.std.specs.Prelude.{Some, None}
 use Rattle.std.specs.Prelude.{MatchOption}
 use Rattle.l2_types.specs.declared.side.Side.{Side}
 use Rattle.pdcp_pdu.specs.Grammar.{IsBitmap}
@@ -12,7 +14,7 @@ use Rattle.air_text.specs.Groups.{Group}
 use Rattle.journal_lives.specs.CountsCome.{CountsCome}
 use Rattle.journal_takes.specs.declared.take.Take.{Take}
 use Rattle.journal_takes.specs.declared.take.Take.TheVariants.{Report, Pdu}
-use Rattle.journal_takes.specs.TakeEvents.{sdu_of}
+use Rattle.journal_takes.specs.TakeEvents.{next_new, kept, sdu_of}
 use Rattle.journal_takes.specs.Takeable.{IsTakeable}
 use Rattle.journal_given.specs.Supplies.{History, histories, Supply, Bearer, marked_from}
 use Rattle.journal_given.specs.Giving.{Giving, side_of, bearer_at, after_line, after_record}
@@ -42,6 +44,11 @@ pub record ReportIsRight (fms : ℕ) (bitmap : List ℕ) (s : Supply History) : 
   pub next : MayBeNext s.takes (Some Report)
   pub said : IsSaid fms bitmap s.bits s.said
 
+-- the first SDU that waits is discarded: there is one
+pub record DiscardIsRight (s : Supply History) : Type 0 where
+  pub waits : next_new s.takes.first s.takes.events - s.takes.first
+      < length (kept s.takes.first s.takes.events)
+
 -- ---- a record, by what those before it told; other bearers aren't judged
 
 abbrev pub OnBearer : Option (Bearer History) → Side → (Supply History → Type 0) → Type 0
@@ -53,6 +60,8 @@ IsRightEvent side (events.Take lcid count len) g =
     OnBearer (bearer_at lcid g.bearers) side (TakeIsRight count len)
 IsRightEvent side (events.Report lcid fms bitmap) g =
     OnBearer (bearer_at lcid g.bearers) side (ReportIsRight fms bitmap)
+IsRightEvent side (events.Discard lcid len) g =
+    OnBearer (bearer_at lcid g.bearers) side DiscardIsRight
 IsRightEvent side event g = Unit {0}
 
 abbrev pub IsRightRecord : Record → Giving History → Type 0

@@ -27,6 +27,7 @@ pub record Keeper (T : Type 0) : Type 0 where
   pub tells : TakeEvent → T → T
   pub next : T → Option Take
   pub sdu : ℕ → T → Option (List ℕ)
+  pub waits : T → Bool
 
 -- the events of all lives so far, the latest first
 pub record History : Type 0 where
@@ -37,6 +38,10 @@ pub record History : Type 0 where
 abbrev pub account : History → FlowTakes
 account h = takes_of h.first h.bits h.events
 
+-- an SDU waits
+abbrev pub has_waiting : FlowTakes → Bool
+has_waiting t = nat_lt 0 (length t.waiting)
+
 -- what is to be taken next by a history is what its account says, and that is exactly what is
 -- takeable (journal_takes, `TakesAreTrue`)
 abbrev pub histories : Keeper History
@@ -45,6 +50,7 @@ histories = record {
   tells = λ e h. record h { events = e ∷ h.events };
   next = λ h. next_take (account h);
   sdu = λ count h. sdu_kept count (account h);
+  waits = λ h. has_waiting (account h);
 }
 
 abbrev pub accounts : Keeper FlowTakes
@@ -53,6 +59,7 @@ accounts = record {
   tells = takes_with;
   next = next_take;
   sdu = sdu_kept;
+  waits = has_waiting;
 }
 
 -- ---- one direction

@@ -2,7 +2,7 @@
 ghost use Rattle.std.specs.Prelude.{◌≡◌, OnOk, IfOk, Some, option_copied};
 ghost use Rattle.journal_takes.specs.TakeEvents.{SduSubmitted, SduDiscarded};
 ghost use Rattle.journal_given.specs.Supplies.{accounts, told, is_take, takes_pdu};
-ghost use Rattle.journal_given.specs.Supplies.{is_right_report, takes_report};
+ghost use Rattle.journal_given.specs.Supplies.{is_right_report, takes_report, has_waiting};
 ghost use Rattle.journal_given.specs.Giving.{side_of, on_side, bearer_begun, landed, lives_ended};
 ghost use Rattle.bearer_types.specs.Configs.{ArePdcpBits};
 
@@ -63,8 +63,10 @@ impl Bearer {
         }
     }
 
-    pub(crate) fn discard(&mut self, side: Side)
-        ensures { self.new ≡ on_side side (told accounts SduDiscarded) self.old }
+    // Whether an SDU waited, which is discarded.
+    pub(crate) fn discard(&mut self, side: Side) -> bool
+        ensures value { result ≡ has_waiting (side_of side self.old).takes }
+        ensures new { self.new ≡ on_side side (told accounts SduDiscarded) self.old }
     {
         match side {
             Side::Nb => self.nb.discard(),

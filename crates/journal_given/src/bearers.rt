@@ -4,10 +4,12 @@ ghost use Rattle.bearer_types.specs.Sides.{other};
 ghost use Rattle.journal_takes.specs.TakeEvents.{SduSubmitted, SduDiscarded};
 ghost use Rattle.journal_given.specs.Supplies.{accounts, told, takes_pdu, takes_report};
 ghost use Rattle.journal_given.specs.Giving.{no_bearers, bearer_at, changed_on, take_right};
+ghost use Rattle.journal_given.specs.Giving.{discard_right};
 ghost use Rattle.journal_given.specs.Giving.{report_right, each_from, landed_on, ended_on};
 
 use crate::bearer::Bearer;
 use arrayvec::ArrayVec;
+use bearer_types::other;
 use journal_flows::JournalFlows;
 use l2_bits::{Bytes, NoMemory};
 use l2_types::Side;
@@ -16,15 +18,6 @@ use l2_types::Side;
 const CHANNELS: usize = 11;
 
 pub(crate) type Bearers = ArrayVec<Option<Bearer>, CHANNELS>;
-
-pub(crate) fn other(side: Side) -> Side
-    ensures { result ≡ other side }
-{
-    match side {
-        Side::Nb => Side::Ue,
-        Side::Ue => Side::Nb,
-    }
-}
 
 pub(crate) fn no_bearers() -> Bearers
     ensures { result.items ≡ no_bearers }
@@ -76,17 +69,19 @@ pub(crate) fn submit(
     }
 }
 
-// The first SDU that waits on a channel is discarded.
-pub(crate) fn discard(bearers: &mut Bearers, side: Side, lcid: u8)
-    ensures { bearers.new.items
+// The first SDU that waits on a channel is discarded; whether there is one.
+pub(crate) fn discard(bearers: &mut Bearers, side: Side, lcid: u8) -> bool
+    ensures value { result ≡ discard_right accounts side (bearer_at lcid bearers.old.items) }
+    ensures new { bearers.new.items
         ≡ changed_on side lcid (told accounts SduDiscarded) bearers.old.items }
 {
     let at = lcid as usize;
     if at >= bearers.len() {
-        return;
+        return true;
     }
-    if let Some(bearer) = &mut bearers[at] {
-        bearer.discard(side);
+    match &mut bearers[at] {
+        Some(bearer) => bearer.discard(side),
+        None => true,
     }
 }
 

@@ -11,32 +11,13 @@ use crate::bearer;
 use crate::bearers::{self, Bearers};
 use crate::waits::Waits;
 use air_record::{Arrived, Line, Record};
-use bearer_types::Event;
-use journal_flows::JournalFlows;
+use bearer_types::{Event, sender_of};
+use journal_flows::{JournalFlows, is_got};
 use journal_takes::FlowTakes;
 use l2_bits::{Bytes, NoMemory};
 use l2_types::{Clock, Side};
-use mac_pdu::Direction;
 use std::alloc::Global;
 use std::marker::Model;
-
-fn sender_of(direction: Direction) -> Side
-    ensures { result ≡ sender_of direction }
-{
-    match direction {
-        Direction::Down => Side::Nb,
-        Direction::Up => Side::Ue,
-    }
-}
-
-fn is_got(what: Arrived) -> bool
-    ensures { result ≡ is_got what }
-{
-    match what {
-        Arrived::Got => true,
-        Arrived::Dup | Arrived::Bad | Arrived::Nothing => false,
-    }
-}
 
 fn is_handover(line: &Line) -> bool
     ensures { result ≡ is_handover line.now }
@@ -143,9 +124,10 @@ impl JournalGiven {
         }
     }
 
-    /// Whether each `take` and each `report` of acknowledged data so far is right: it is what is
-    /// takeable next, with the length of its SDU, or with the FMS and the bitmap of what had come
-    /// as the life began. One that isn't right tells PDCP nothing.
+    /// Whether each `take`, `report` and `discard` of acknowledged data so far is right: what is
+    /// taken is what is takeable next, with the length of its SDU, or with the FMS and the bitmap
+    /// of what had come as the life began; what is discarded waited. A `take` or `report` that
+    /// isn't right tells PDCP nothing.
     pub fn is_right(&self) -> bool
         ensures { result ≡ self.now.right }
     {
@@ -270,8 +252,9 @@ impl JournalGiven {
                 self.right = self.right && is_right;
             }
             Event::Discard { lcid, .. } => {
-                bearers::discard(&mut self.bearers, side, *lcid);
+                let is_right = bearers::discard(&mut self.bearers, side, *lcid);
                 self.waits.remove(side, *lcid);
+                self.right = self.right && is_right;
             }
             _ => {}
         }

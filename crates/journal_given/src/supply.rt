@@ -6,6 +6,7 @@ ghost use Rattle.journal_takes.specs.declared.take.Take.{Take as Takes};
 ghost use Rattle.journal_takes.specs.FlowTakes.{next_take, sdu_kept};
 ghost use Rattle.journal_takes.specs.TakeEvents.{SduSubmitted, SduDiscarded, ReportHeard};
 ghost use Rattle.journal_given.specs.Supplies.{accounts, begun, told, is_pdu, has_length, is_take};
+ghost use Rattle.journal_given.specs.Supplies.{has_waiting};
 ghost use Rattle.journal_given.specs.Supplies.{gives, gives_other, takes_pdu, is_report};
 ghost use Rattle.journal_given.specs.Supplies.{is_right_report, takes_report, confirmation};
 ghost use Rattle.journal_given.specs.Supplies.{confirms_one, confirms_all, confirms_if, confirms};
@@ -136,11 +137,14 @@ impl Supply {
         self.takes.submit(sdu)
     }
 
-    // The first that waits is discarded.
-    pub(crate) fn discard(&mut self)
-        ensures { self.new ≡ told accounts SduDiscarded self.old }
+    // The first SDU that waits is discarded; whether there is one.
+    pub(crate) fn discard(&mut self) -> bool
+        ensures value { result ≡ has_waiting self.old.takes }
+        ensures new { self.new ≡ told accounts SduDiscarded self.old }
     {
+        let waits = self.takes.waiting() > 0;
         self.takes.discard();
+        waits
     }
 
     fn is_take(&self, count: u32, len: u32) -> bool
