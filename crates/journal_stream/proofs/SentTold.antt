@@ -1,10 +1,10 @@
 -- What is kept of the octets of a flow tells what its history says.
 use Rattle.std.proofs.Common.{◌≡◌, ◌≤◌, ℕ, ◌+◌, ◌-◌, true, List, [], ◌∷◌, ◌++◌, length, take, drop}
 use Rattle.std.proofs.Common.{refl, ap, sym, ◌∙◌, arith, append_assoc, length-append}
-use Rattle.std.specs.Prelude.{min, nat_le, slice_index_or}
+use Rattle.std.specs.Prelude.{◌==◌, min, nat_le, slice_index_or}
 use Rattle.std.specs.Str.{bytes_eq}
 use Rattle.std.proofs.Math.Seq.{drop-append_seam, take-append_seam}
-use Rattle.std.proofs.lemmas.Bool.{and_parts, and_from, leb-true, le-leb}
+use Rattle.std.proofs.lemmas.Bool.{and_parts, and_from, leb-true, le-leb, eqb-true, eq-eqb}
 use Rattle.std.proofs.lemmas.List.{drop-append-le, drop-drop, drop_at, take-append-drop, length-take-le, length-drop}
 use Rattle.std.proofs.lemmas.List.{get_or-drop}
 use Rattle.std.proofs.lemmas.Slice.Eq.{bytes_eq-Decides}
@@ -129,6 +129,14 @@ told base es h = record {
               from_is = a.from_is;
             })),
       );
+  ends = λ number at low.
+      let own = field_of number (kept_of base es) in
+      let is : length own ≡ length (slice_index_or (fields es) number []) =
+      ap (λ (l : List ℕ). length l) (field_kept es base number low) in (
+        λ e. sym is ∙ eqb-true (length own) at (and_parts (nat_le base number) (length own == at) e).1,
+        λ e. and_from (nat_le base number) (length own == at) (le-leb base number low)
+            (eq-eqb (length own) at (is ∙ e)),
+      );
 }
 
 -- ---- the calls
@@ -153,4 +161,5 @@ steps = record {
       let size = length-drop base (fields es) in
       let few : min many (length (drop base (fields es))) ≡ many = omega (arith, size, low) in
       rw (few, drop-drop many base (fields es)) refl;
+  number = λ base es low. let size = length-drop base (fields es) in omega (arith, size, low);
 }

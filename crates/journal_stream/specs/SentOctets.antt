@@ -1,7 +1,7 @@
 -- The octets of an acknowledged flow in a life, as they are kept: what isn't written yet, and the
 -- data fields of the numbers that aren't forgotten (docs/laws/ACCOUNT.md).
-use Rattle.std.specs.Prelude.{ℕ, ◌+◌, ◌-◌, Bool, ◌&&◌, nat_le, List, [], ◌∷◌, ◌++◌, length, take}
-use Rattle.std.specs.Prelude.{drop, min, slice_index_or}
+use Rattle.std.specs.Prelude.{ℕ, ◌+◌, ◌-◌, ◌==◌, Bool, ◌&&◌, nat_le, List, [], ◌∷◌, ◌++◌, length}
+use Rattle.std.specs.Prelude.{take, drop, min, slice_index_or}
 use Rattle.std.specs.Str.{bytes_eq}
 
 -- base is the number of the first field
@@ -39,6 +39,14 @@ stand_in field from octets =
 abbrev pub has_octets : ℕ → ℕ → List ℕ → SentOctets → Bool
 has_octets number from octets s =
     nat_le s.base number && stand_in (field_of number s) from octets
+
+-- the field of a number that isn't forgotten ends at a place
+abbrev pub ends_at : ℕ → ℕ → SentOctets → Bool
+ends_at number at s = nat_le s.base number && (length (field_of number s) == at)
+
+-- the number that is written next
+abbrev pub next_number : SentOctets → ℕ
+next_number s = s.base + length s.fields
 
 -- so many numbers more are forgotten
 abbrev pub forgotten : ℕ → SentOctets → SentOctets

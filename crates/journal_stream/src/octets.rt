@@ -1,6 +1,8 @@
-ghost use Rattle.std.specs.Prelude.{◌≡◌, ◌++◌, ◌∷◌, [], ◌+◌, ◌≤◌, ◌<◌, length, OnOk, OnErr, true};
+ghost use Rattle.std.specs.Prelude.{◌≡◌, ◌++◌, ◌∷◌, [], ◌+◌, ◌≤◌, ◌<◌, length, OnOk, OnErr, IfOk};
+ghost use Rattle.std.specs.Prelude.{true};
 ghost use Rattle.journal_stream.specs.SentOctets.{none_sent, with_pdu, has_next, with_field};
-ghost use Rattle.journal_stream.specs.SentOctets.{has_octets, forgotten, stand_in};
+ghost use Rattle.journal_stream.specs.SentOctets.{has_octets, ends_at, next_number, forgotten};
+ghost use Rattle.journal_stream.specs.SentOctets.{stand_in};
 
 use crate::unwritten::Unwritten;
 use l2_bits::{Bytes, NoMemory};
@@ -13,7 +15,6 @@ use std::marker::Model;
 /// `specs/SentOctets.antt`.
 #[derive(Drop)]
 pub struct SentOctets {
-    alloc: Global,
     unwritten: Unwritten,
     base: u64,
     fields: VecDeque<Bytes>,
@@ -37,7 +38,6 @@ impl SentOctets {
         ensures { result ≡ none_sent }
     {
         SentOctets {
-            alloc,
             unwritten: Unwritten::new(alloc),
             base: 0,
             fields: VecDeque::new(alloc),
@@ -61,15 +61,30 @@ impl SentOctets {
 
     /// The sender writes the next number, with these octets in its data field: those that come
     /// next. An `Err` changes nothing.
-    pub fn write(&mut self, field: &[u8]) -> Result<(), NoMemory>
-        requires { has_next field.now self.old ≡ true }
-        ensures ok { OnOk result (self.new ≡ with_field field.now self.old) }
+    pub fn write(&mut self, field: Bytes) -> Result<(), NoMemory>
+        requires { has_next field self.old ≡ true }
+        ensures ok { OnOk result (self.new ≡ with_field field self.old) }
         ensures err { OnErr result (self.new ≡ self.old) }
     {
-        let kept = Bytes::from_slice(self.alloc, field)?;
-        self.fields.push_back(kept)?;
-        self.unwritten.pass(field.len());
+        let many = field.as_slice().len();
+        self.fields.push_back(field)?;
+        self.unwritten.pass(many);
         Ok(())
+    }
+
+    /// The first number that isn't forgotten.
+    pub fn base(&self) -> u64
+        ensures { result ≡ self.now.base }
+    {
+        self.base
+    }
+
+    /// The number that is written next; `NoMemory` where it has more than 64 bits.
+    pub fn next(&self) -> Result<u64, NoMemory>
+        ensures { IfOk result (λ number. number ≡ next_number self.now) }
+    {
+        let many = self.fields.len() as u64;
+        self.base.checked_add(many).ok_or(NoMemory)
     }
 
     /// Whether these octets stand in the data field of a number, from a place on (TS 36.322 5.2.1).
@@ -83,6 +98,20 @@ impl SentOctets {
         match self.fields.get(at as usize) {
             Some(field) => stand_in(field.as_slice(), from as usize, octets),
             None => stand_in(&[], from as usize, octets),
+        }
+    }
+
+    /// Whether the data field of a number ends at a place, that is, has so many octets. That of a
+    /// number that is forgotten ends nowhere; that of one that isn't written is empty.
+    pub fn ends_at(&self, number: u64, at: u64) -> bool
+        ensures { result ≡ ends_at number at self.now }
+    {
+        let Some(place) = number.checked_sub(self.base) else {
+            return false;
+        };
+        match self.fields.get(place as usize) {
+            Some(field) => field.as_slice().len() as u64 == at,
+            None => at == 0,
         }
     }
 
