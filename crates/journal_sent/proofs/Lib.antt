@@ -1,0 +1,10 @@
+pub mod KeptStreams
+pub mod Grows
+pub mod KeptFlows
+pub mod Tells
+pub mod Records
+pub mod Groups
+pub mod Exact
+pub mod PartMarks
+pub mod Blocks
+pub mod Sdus
