@@ -1,3 +1,11 @@
 pub mod Given
 pub mod KeptLines
 pub mod Standing
+pub mod Layouts
+pub mod Folds
+pub mod MayTakes
+pub mod ToldFolds
+pub mod Ruled
+pub mod Verdicts
+pub mod Losses
+pub mod Feeding

@@ -35,12 +35,12 @@ fault_told r o one t = rw (t.ended, t.begun) (flip (not (has_any r.sums) && has_
 
 -- ---- a record that may follow
 
-record Follows (r : GroupedRecords) (one : Record) : Type 0 where
-  unforged : is_forge one ≡ false
-  in_order : is_in_order r one ≡ true
-  by_rules : is_by_rules r one ≡ true
+pub record Follows (r : GroupedRecords) (one : Record) : Type 0 where
+  pub unforged : is_forge one ≡ false
+  pub in_order : is_in_order r one ≡ true
+  pub by_rules : is_by_rules r one ≡ true
 
-follows : (r : GroupedRecords) (one : Record) → record_fault r one ≡ None → Follows r one
+pub follows : (r : GroupedRecords) (one : Record) → record_fault r one ≡ None → Follows r one
 follows r one h = by (is_forge one) (is_in_order r one) (is_by_rules r one) refl refl refl h
   where
     by : (f o b : Bool) → is_forge one ≡ f → is_in_order r one ≡ o → is_by_rules r one ≡ b
@@ -115,7 +115,7 @@ sum-count one r =
     let more = counted r.sums (one ∷ []) in
     omega (arith, old, new, more)
 
-any-more : (sums : List Record) (one : Record) → has_any (sums ++ one ∷ []) ≡ true
+pub any-more : (sums : List Record) (one : Record) → has_any (sums ++ one ∷ []) ≡ true
 any-more [] one = refl
 any-more (s ∷ sums) one = refl
 

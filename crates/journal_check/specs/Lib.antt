@@ -2,3 +2,7 @@ pub mod LineRules
 pub mod Grouped
 pub mod States
 pub mod Checks
+pub mod Judging
+pub mod Soundness
+pub mod Checked
+pub mod Steps

@@ -145,6 +145,10 @@ fault_by o (records.Line number line) = line_fault o number line
 fault_by o (records.Sum direction lcid submitted delivered state) = None
 fault_by o one = if not o.ended && is_some o.last then None else Some Order
 
+-- a group runs, which more records may follow
+abbrev pub is_running : OrderState → Bool
+is_running o = is_some o.last && not o.ended
+
 abbrev pub behind_one : OrderState → OrderState
 behind_one o = record o { count = o.count + 1 }
 

@@ -1,11 +1,11 @@
-ghost use Rattle.std.specs.Prelude.{◌≡◌, ◌+◌, ◌<◌, OnOk};
+ghost use Rattle.std.specs.Prelude.{◌≡◌, ◌+◌, ◌<◌, ◌≤◌, OnOk};
 ghost use Rattle.air_record.specs.declared.record.Record.{Record};
 ghost use Rattle.journal_check.specs.declared.fault.CheckFault.TheVariants.{Refused};
 ghost use Rattle.journal_check.specs.declared.limits.TheConstants.{MOST_RECORDS};
 ghost use Rattle.journal_check.specs.Checks.{ReadsNext, TellsRecords, AdmitsNext};
 ghost use Rattle.journal_check.specs.Grouped.{GroupedRecords};
 ghost use Rattle.journal_check.specs.States.{no_order, line_fault, fault_by, behind_record};
-ghost use Rattle.journal_check.specs.States.{is_above, HasRecordPlace};
+ghost use Rattle.journal_check.specs.States.{is_above, is_running, is_set, HasRecordPlace};
 
 use crate::fault::{CheckFault, CheckWhy};
 use crate::limits::{LONGEST_RECORD, MOST_RECORDS};
@@ -53,6 +53,27 @@ impl RecordOrder {
             ended: false,
             lines: LineRules::new(alloc),
         }
+    }
+
+    /// How many records there are.
+    pub fn count(&self) -> u32
+        ensures { result ≡ self.now.count }
+    {
+        self.count
+    }
+
+    /// Whether a group runs, which more records may follow.
+    pub fn is_running(&self) -> bool
+        ensures { result ≡ is_running self.now }
+    {
+        self.last.is_some() && !self.ended
+    }
+
+    /// Whether there is a bearer on a logical channel.
+    pub fn has_bearer(&self, lcid: u8) -> bool
+        ensures { result ≡ is_set lcid self.now.lines.bearers }
+    {
+        self.lines.has_bearer(lcid)
     }
 
     // A refusal of the next line.
@@ -130,6 +151,8 @@ impl RecordOrder {
         requires { self.old.count < MOST_RECORDS }
         ensures kept { OnOk result (self.new ≡ behind_record one.now self.old) }
         ensures place { OnOk result (HasRecordPlace one.now) }
+        ensures more { OnOk result (self.new.count ≡ self.old.count + 1) }
+        ensures count { self.old.count ≤ self.new.count }
     {
         match one {
             Record::Line { number, line } => {
@@ -146,8 +169,10 @@ impl RecordOrder {
     /// Keeps the next record, if it may stand behind those so far.
     pub fn admit(&mut self, one: &Record) -> Result<(), CheckFault>
         requires { self.old.count < MOST_RECORDS }
-        ensures { (r : GroupedRecords) → TellsRecords r self.old
+        ensures next { (r : GroupedRecords) → TellsRecords r self.old
             → AdmitsNext r one.now result self.new }
+        ensures more { OnOk result (self.new.count ≡ self.old.count + 1) }
+        ensures count { self.old.count ≤ self.new.count }
     {
         if let Some(why) = self.fault(one) {
             return Err(self.refused(why));

@@ -97,7 +97,8 @@ impl LineRules {
         }
     }
 
-    fn has_bearer(&self, lcid: u8) -> bool
+    /// Whether there is a bearer on a logical channel.
+    pub fn has_bearer(&self, lcid: u8) -> bool
         ensures { result ≡ is_set lcid self.now.bearers }
     {
         self.bearers[lcid as usize]
