@@ -39,6 +39,14 @@ pub decode_read : subcommand_of line_app (codes "decode" ∷ []) ≡ Some (codes
 unfolding clap_on_literals
 decode_read = refl
 
+pub check_taken : fault_of line_app (codes "check" ∷ []) ≡ []
+unfolding clap_on_literals
+check_taken = refl
+
+pub check_read : subcommand_of line_app (codes "check" ∷ []) ≡ Some (codes "check", [])
+unfolding clap_on_literals
+check_read = refl
+
 pub generate_fails : fault_of line_app (codes "generate" ∷ []) ≢ []
 unfolding clap_on_literals
 generate_fails e = cc
@@ -56,9 +64,10 @@ number_read x xs e = simp e
 -- a word that is no subcommand
 pub stray_fails : (x : ℕ) (xs : List ℕ) (rest : List Text) → (x == 45) ≡ false
     → bytes_eq (codes "run") (x ∷ xs) ≡ false → bytes_eq (codes "decode") (x ∷ xs) ≡ false
-    → bytes_eq (codes "generate") (x ∷ xs) ≡ false → fault_of line_app ((x ∷ xs) ∷ rest) ≢ []
+    → bytes_eq (codes "check") (x ∷ xs) ≡ false → bytes_eq (codes "generate") (x ∷ xs) ≡ false
+    → fault_of line_app ((x ∷ xs) ∷ rest) ≢ []
 unfolding clap_on_literals
-stray_fails x xs rest e r d g h = let bad = simp (e, r, d, g) at h in cc
+stray_fails x xs rest e r d k g h = let bad = simp (e, r, d, k, g) at h in cc
 
 -- ---- words behind a name
 
@@ -89,6 +98,16 @@ stop_decode rest =
     (walk_stopped (built line_app).top.rules (names_of (built line_app)) (walk_from nothing_held) (codes "decode") []
     rest))
 
+stop_check : (rest : List Text)
+    → stop_after (built line_app).top.rules (names_of (built line_app)) (codes "check" ∷ rest)
+    ≡ Some (codes "check", rest)
+unfolding clap_on_literals
+stop_check rest =
+    sym
+    (ap (λ (v : Walk). v.stopped)
+    (walk_stopped (built line_app).top.rules (names_of (built line_app)) (walk_from nothing_held) (codes "check") []
+    rest))
+
 stop_generate : (rest : List Text)
     → stop_after (built line_app).top.rules (names_of (built line_app)) (codes "generate" ∷ rest)
     ≡ Some (codes "generate", rest)
@@ -108,6 +127,11 @@ in_decode : (x : ℕ) (xs : List ℕ) (rest : List Text) → (x == 45) ≡ false
     → entered_fault (built line_app) (Some (codes "decode", (x ∷ xs) ∷ rest)) ≢ []
 unfolding clap_on_literals
 in_decode x xs rest e h = let bad = simp e at h in cc
+
+in_check : (x : ℕ) (xs : List ℕ) (rest : List Text) → (x == 45) ≡ false
+    → entered_fault (built line_app) (Some (codes "check", (x ∷ xs) ∷ rest)) ≢ []
+unfolding clap_on_literals
+in_check x xs rest e h = let bad = simp e at h in cc
 
 in_generate : (x : ℕ) (xs : List ℕ) (y : ℕ) (ys : List ℕ) (rest : List Text) → (x == 45) ≡ false → (y == 45) ≡ false
     → entered_fault (built line_app) (Some (codes "generate", (x ∷ xs) ∷ (y ∷ ys) ∷ rest)) ≢ []
@@ -130,6 +154,12 @@ pub decode_more : (x : ℕ) (xs : List ℕ) (rest : List Text) → (x == 45) ≡
 decode_more x xs rest e h =
     in_decode x xs rest e (ap (entered_fault (built line_app)) (sym (stop_decode ((x ∷ xs) ∷ rest)))
     ∙ entered_empty (codes "decode" ∷ (x ∷ xs) ∷ rest) h)
+
+pub check_more : (x : ℕ) (xs : List ℕ) (rest : List Text) → (x == 45) ≡ false
+    → fault_of line_app (codes "check" ∷ (x ∷ xs) ∷ rest) ≢ []
+check_more x xs rest e h =
+    in_check x xs rest e (ap (entered_fault (built line_app)) (sym (stop_check ((x ∷ xs) ∷ rest)))
+    ∙ entered_empty (codes "check" ∷ (x ∷ xs) ∷ rest) h)
 
 pub generate_more : (x : ℕ) (xs : List ℕ) (y : ℕ) (ys : List ℕ) (rest : List Text) → (x == 45) ≡ false
     → (y == 45) ≡ false

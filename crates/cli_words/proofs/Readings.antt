@@ -14,16 +14,19 @@ use Rattle.cli_words.specs.Commands.{command_of, lone_command, command_with, num
 use Rattle.cli_words.specs.declared.command.Command.TheVariants.{Generate}
 use Rattle.cli_words.specs.Line.{line_app, command_in, is_plain, are_plain}
 use Rattle.cli_words.proofs.Faults.{none_fails, run_taken, run_read, run_more, decode_more, generate_more, decode_taken}
-use Rattle.cli_words.proofs.Faults.{decode_read, generate_fails, number_taken, stray_fails}
+use Rattle.cli_words.proofs.Faults.{decode_read, check_taken, check_read, check_more, generate_fails, number_taken}
+use Rattle.cli_words.proofs.Faults.{stray_fails}
 
 -- a word that is no subcommand's name
 record IsOther (word : Text) : Type 0 where
   no_run : word ≢ codes "run"
   no_decode : word ≢ codes "decode"
+  no_check : word ≢ codes "check"
   no_generate : word ≢ codes "generate"
 
 abbrev Name : Text → Type 0
-Name word = (word ≡ codes "run") ⊎ (word ≡ codes "decode") ⊎ (word ≡ codes "generate") ⊎ IsOther word
+Name word = (word ≡ codes "run") ⊎ (word ≡ codes "decode") ⊎ (word ≡ codes "check") ⊎ (word ≡ codes "generate")
+    ⊎ IsOther word
 
 differs : (a b : Text) → a ≢ b → bytes_eq a b ≡ false
 differs a b ne = false_from_ne_true (bytes_eq a b) (λ e. ne ((bytes_eq-Decides a b).0 e))
@@ -40,16 +43,28 @@ name_of word = elim (same_or_not word (codes "run")) [
   | inl run ↦ inl run
   | inr no_run ↦ elim (same_or_not word (codes "decode")) [
     | inl decode ↦ inr (inl decode)
-    | inr no_decode ↦ elim (same_or_not word (codes "generate")) [
-      | inl generate ↦ inr (inr (inl generate))
-      | inr no_generate ↦ inr (inr (inr (record { no_run = no_run; no_decode = no_decode; no_generate = no_generate })))
+    | inr no_decode ↦ elim (same_or_not word (codes "check")) [
+      | inl check ↦ inr (inr (inl check))
+      | inr no_check ↦ elim (same_or_not word (codes "generate")) [
+        | inl generate ↦ inr (inr (inr (inl generate)))
+        | inr no_generate ↦ inr (inr (inr (inr (record {
+          no_run = no_run;
+          no_decode = no_decode;
+          no_check = no_check;
+          no_generate = no_generate;
+        }))))
+      ]
     ]
   ]
 ]
 
 no_command : (word : Text) (rest : List Text) → IsOther word → command_of (word ∷ rest) ≡ None
 no_command word [] other =
-    rw (differs word (codes "run") other.no_run, differs word (codes "decode") other.no_decode) refl
+    rw (
+      differs word (codes "run") other.no_run,
+      differs word (codes "decode") other.no_decode,
+      differs word (codes "check") other.no_check,
+    ) refl
 no_command word (number ∷ []) other = rw (differs word (codes "generate") other.no_generate) refl
 no_command word (number ∷ more ∷ rest) other = refl
 
@@ -90,6 +105,12 @@ decode_verdict ([] ∷ rest) p = absurd (false≢true p)
 decode_verdict ((x ∷ xs) ∷ rest) p =
     inr (decode_more x xs rest (first_plain x xs rest p).0, longer (codes "decode") (x ∷ xs) rest refl)
 
+check_verdict : (rest : List Text) → are_plain rest ≡ true → Verdict (codes "check" ∷ rest)
+check_verdict [] p = inl (check_taken, ap command_in check_read)
+check_verdict ([] ∷ rest) p = absurd (false≢true p)
+check_verdict ((x ∷ xs) ∷ rest) p =
+    inr (check_more x xs rest (first_plain x xs rest p).0, longer (codes "check") (x ∷ xs) rest refl)
+
 generate_verdict : (rest : List Text) → are_plain rest ≡ true → Verdict (codes "generate" ∷ rest)
 generate_verdict [] p = inr (generate_fails, refl)
 generate_verdict ([] ∷ rest) p = absurd (false≢true p)
@@ -103,7 +124,7 @@ other_verdict : (x : ℕ) (xs : List ℕ) (rest : List Text) → IsOther (x ∷ 
     → Verdict ((x ∷ xs) ∷ rest)
 other_verdict x xs rest other e = inr (
   stray_fails x xs rest e (differs _ _ (λ s. other.no_run (sym s))) (differs _ _ (λ s. other.no_decode (sym s)))
-      (differs _ _ (λ s. other.no_generate (sym s))),
+      (differs _ _ (λ s. other.no_check (sym s))) (differs _ _ (λ s. other.no_generate (sym s))),
   no_command (x ∷ xs) rest other,
 )
 
@@ -117,8 +138,12 @@ verdict ((x ∷ xs) ∷ rest) p =
       | inr more ↦ elim more [
         | inl decode ↦ subst (λ (word : Text). Verdict (word ∷ rest)) (sym decode) (decode_verdict rest first.1)
         | inr left ↦ elim left [
-          | inl generate ↦ subst (λ (word : Text). Verdict (word ∷ rest)) (sym generate) (generate_verdict rest first.1)
-          | inr other ↦ other_verdict x xs rest other first.0
+          | inl check ↦ subst (λ (word : Text). Verdict (word ∷ rest)) (sym check) (check_verdict rest first.1)
+          | inr last ↦ elim last [
+            | inl generate ↦
+                subst (λ (word : Text). Verdict (word ∷ rest)) (sym generate) (generate_verdict rest first.1)
+            | inr other ↦ other_verdict x xs rest other first.0
+          ]
         ]
       ]
     ]

@@ -1,12 +1,12 @@
 -- The commands (README).
-use Rattle.std.specs.Prelude.{ℕ, ◌+◌, ◌-◌, ◌*◌, Bool, ◌&&◌, if◌then◌else◌, nat_le, nat_lt, List, []}
+use Rattle.std.specs.Prelude.{ℕ, Bool, ◌&&◌, if◌then◌else◌, nat_le, nat_lt, List, []}
 use Rattle.std.specs.Prelude.{◌∷◌, length, codes, Option, Some, None, option_map}
 use Rattle.std.specs.List.{list_all}
 use Rattle.std.specs.Str.{bytes_eq}
 use Rattle.std.specs.Str.Parse.{without_leading_plus}
 use Rattle.text_digits.specs.Numerals.{is_digit, value_behind}
 use Rattle.cli_words.specs.declared.command.Command.{Command}
-use Rattle.cli_words.specs.declared.command.Command.TheVariants.{Run, Decode, Generate}
+use Rattle.cli_words.specs.declared.command.Command.TheVariants.{Run, Decode, Check, Generate}
 
 -- digits alone, one or more, of a number of 32 bits
 abbrev pub is_number : List ℕ → Bool
@@ -21,7 +21,8 @@ number_in word = let digits = without_leading_plus word in
 -- the command that a word alone is
 abbrev pub lone_command : List ℕ → Option Command
 lone_command word = if bytes_eq word (codes "run") then Some Run
-    else if bytes_eq word (codes "decode") then Some Decode else None
+    else if bytes_eq word (codes "decode") then Some Decode
+    else if bytes_eq word (codes "check") then Some Check else None
 
 -- the command that a word and another one behind it are
 abbrev pub command_with : List ℕ → List ℕ → Option Command

@@ -8,7 +8,7 @@ use Rattle.clap.specs.Words.{with_subcommand}
 use Rattle.clap.specs.Simple.{on_top}
 use Rattle.clap.specs.declared.builder.action.ArgAction.TheVariants.{Set}
 use Rattle.cli_words.specs.declared.command.Command.{Command}
-use Rattle.cli_words.specs.declared.command.Command.TheVariants.{Run, Decode, Generate}
+use Rattle.cli_words.specs.declared.command.Command.TheVariants.{Run, Decode, Check, Generate}
 use Rattle.cli_words.specs.Commands.{number_in}
 
 -- a word that isn't empty and doesn't begin with a hyphen
@@ -36,8 +36,10 @@ bare_app = on_top (λ s. record s {
 abbrev pub line_app : App
 line_app =
     with_subcommand
+    (with_subcommand
     (with_subcommand (with_subcommand bare_app (new_app (codes "run")).top)
-    (new_app (codes "decode")).top) generate_app.top
+    (new_app (codes "decode")).top)
+    (new_app (codes "check")).top) generate_app.top
 
 abbrev pub generate_in : List Row → Option Command
 generate_in rows = option_map Generate (option_and_then number_in (first_of (codes "number") rows))
@@ -46,6 +48,7 @@ generate_in rows = option_map Generate (option_and_then number_in (first_of (cod
 abbrev pub command_at : Text → List Row → Option Command
 command_at name rows = if bytes_eq name (codes "run") then Some Run
     else if bytes_eq name (codes "decode") then Some Decode
+    else if bytes_eq name (codes "check") then Some Check
     else generate_in rows
 
 abbrev pub command_in : Option (Text × List Row) → Option Command

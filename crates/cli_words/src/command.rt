@@ -12,6 +12,8 @@ pub enum Command {
     Run,
     /// Shows blocks.
     Decode,
+    /// Judges a journal.
+    Check,
     /// Plays the script that is made from a number.
     Generate {
         /// The number.
@@ -42,6 +44,7 @@ fn command_at(name: &str, values: &ArgMatches<'_>) -> Option<Command>
     match name {
         "run" => Some(Command::Run),
         "decode" => Some(Command::Decode),
+        "check" => Some(Command::Check),
         _ => generate_in(values),
     }
 }

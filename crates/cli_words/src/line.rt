@@ -26,12 +26,13 @@ fn generate<'a>(alloc: Global) -> Result<Command<'a>, AllocError>
     Command::new(alloc, "generate").arg(number)
 }
 
-/// The command line as clap reads it: three subcommands, of which `generate` takes a word.
+/// The command line as clap reads it: four subcommands, of which `generate` takes a word.
 pub(crate) fn line<'a>(alloc: Global) -> Result<Command<'a>, AllocError>
     ensures { IfOk result (λ c. app_of c ≡ line_app) }
 {
     bare(alloc)
         .subcommand(Command::new(alloc, "run"))?
         .subcommand(Command::new(alloc, "decode"))?
+        .subcommand(Command::new(alloc, "check"))?
         .subcommand(generate(alloc)?)
 }

@@ -1,26 +1,21 @@
 -- What a command did with the front of a text that it read is what the whole text gives.
-use Rattle.std.proofs.Common.{◌≡◌, ◌≢◌, ◌⊎◌, ℕ, Bool, true, false, List, [], ◌∷◌, ◌++◌}
+use Rattle.std.proofs.Common.{◌≡◌, ◌≢◌, ◌⊎◌, ℕ, Bool, true, false, List, [], ◌++◌}
 use Rattle.std.proofs.Common.{Option, None, Some}
-use Rattle.std.proofs.Common.{refl, ap, ◌∙◌, arith, inl, inr, Result, Ok, Err, IfOk}
+use Rattle.std.proofs.Common.{refl, ap, ◌∙◌, arith, inl, inr}
 use Rattle.std.proofs.lemmas.List.{append-nil}
-use Rattle.std.specs.Prelude.{codes}
-use Rattle.l2_bits.specs.declared.fault.NoMemory.{NoMemory}
-use Rattle.cli_words.specs.Commands.{command_of}
 use Rattle.l2_io.specs.Known.{before, IsAtEnd, HasRisen}
 use Rattle.l2_io.specs.Machines.{Keeper}
 use Rattle.air_record.specs.Text.{text_of}
 use Rattle.air_record.specs.declared.record.Record.{Record}
-use Rattle.air_run.specs.Journal.{RunPlayed, journal_of, script}
+use Rattle.air_run.specs.Journal.{RunPlayed}
 use Rattle.air_run.specs.Refusals.{refusal_word}
 use Rattle.air_run.specs.declared.refusal.RunRefusal.{RunRefusal}
 use Rattle.line_player.proofs.Final.{shown-is-final}
-use Rattle.l2_commands.specs.Journals.{blocks_of, showing}
-use Rattle.l2_commands.specs.Main.{Does, over}
+use Rattle.l2_commands.specs.Generating.{over}
 use Rattle.line_player.specs.Answers.{Runs, Row}
 use Rattle.line_player.specs.Journal.{Player, Waiting, journal_by}
 use Rattle.line_player.specs.declared.status.Status.{Status}
 use Rattle.line_player.specs.declared.status.Status.TheVariants as statuses
-use Rattle.l2_c_texts.specs.declared.texts.Texts.{Texts}
 use Rattle.l2_c_texts.specs.Texts.{nothing_put, held_by, Gives}
 
 -- a count of 0 hasn't risen
@@ -67,17 +62,3 @@ given m text left out errs status runs =
       | inl none ↦ rw none tt
       | inr shows ↦ rw (whole_is m text runs.given left runs.whole runs.left_is runs.end shows) shown.0
     ]
-
-pub run_given : (text : List ℕ) (result : Result Texts NoMemory)
-    → IfOk result (λ t. (left : Option (List ℕ)) × Does (command_of (codes "run" ∷ []))
-    (over (Some text) nothing_put nothing_put) (over left (held_by t.journal) (held_by t.message)) t.status)
-    → IfOk result (λ t. Gives (journal_of true text) t.status t.journal.octets t.message.octets)
-run_given text (Ok t) done = given script text done.0 t.journal t.message t.status done.1
-run_given text (Err e) done = tt
-
-pub decode_given : (text : List ℕ) (result : Result Texts NoMemory)
-    → IfOk result (λ t. (left : Option (List ℕ)) × Does (command_of (codes "decode" ∷ []))
-    (over (Some text) nothing_put nothing_put) (over left (held_by t.journal) (held_by t.message)) t.status)
-    → IfOk result (λ t. Gives (blocks_of true text) t.status t.journal.octets t.message.octets)
-decode_given text (Ok t) done = given showing text done.0 t.journal t.message t.status done.1
-decode_given text (Err e) done = tt

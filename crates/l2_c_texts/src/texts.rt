@@ -1,19 +1,17 @@
-ghost use Rattle.std.specs.Prelude.{◌≡◌, ◌⊎◌, ◌∷◌, [], true, ℕ, List, Option, Some, length, IfOk};
-ghost use Rattle.cli_words.specs.Commands.{command_of};
-ghost use Rattle.l2_commands.specs.Main.{Does, over};
+ghost use Rattle.std.specs.Prelude.{◌≡◌, ◌⊎◌, true, ℕ, List, Option, Some, length, IfOk};
 ghost use Rattle.air_run.specs.Journal.{journal_of};
 ghost use Rattle.l2_commands.specs.Journals.{blocks_of};
-ghost use Rattle.l2_c_texts.specs.Texts.{nothing_put, held_by, Gives, status_answer};
+ghost use Rattle.l2_c_texts.specs.Texts.{Gives, status_answer};
 ghost use Rattle.l2_c_texts.specs.Texts.{left_answer, Puts, Plays};
 ghost use Rattle.c_answers.specs.declared.TheConstants.{NO_MEMORY};
 
 use c_answers::{DONE, NO_MEMORY, REFUSED, ROOM};
 use l2_bits::NoMemory;
-use l2_commands::{Status, Words, run_command};
+use l2_commands::{Status, decode, run};
 use l2_io::{SureSink, SureSource};
 use std::alloc::Global;
 
-/// The most octets of a text that the command takes at once.
+/// The most octets of a text that a command takes at once.
 const PIECE: usize = 65_536;
 
 // What a command left: its answer, what it put out and what it told.
@@ -24,18 +22,15 @@ struct Texts {
     message: SureSink,
 }
 
-// Runs the command of a word over a text.
-fn command(alloc: Global, word: &str, text: &[u8]) -> Result<Texts, NoMemory>
-    ensures { IfOk result (λ t. (left : Option (List ℕ)) × Does (command_of (word.now ∷ []))
-        (over (Some text.now) nothing_put nothing_put)
-        (over left (held_by t.journal) (held_by t.message)) t.status) }
+// Plays a script.
+fn run_text(alloc: Global, script: &[u8]) -> Result<Texts, NoMemory>
+    ensures { IfOk result (λ t. Gives (journal_of true script.now) t.status t.journal.octets
+        t.message.octets) }
 {
-    let mut words = Words::new(alloc);
-    words.push(word)?;
-    let mut source = SureSource::new(alloc, text, PIECE)?;
+    let mut source = SureSource::new(alloc, script, PIECE)?;
     let mut journal = SureSink::new(alloc);
     let mut message = SureSink::new(alloc);
-    let status = run_command(alloc, &words, &mut source, &mut journal, &mut message);
+    let status = run(alloc, &mut source, &mut journal, &mut message);
     Ok(Texts {
         status,
         journal,
@@ -43,18 +38,20 @@ fn command(alloc: Global, word: &str, text: &[u8]) -> Result<Texts, NoMemory>
     })
 }
 
-fn run_text(alloc: Global, script: &[u8]) -> Result<Texts, NoMemory>
-    ensures { IfOk result (λ t. Gives (journal_of true script.now) t.status t.journal.octets
-        t.message.octets) }
-{
-    command(alloc, "run", script)
-}
-
+// Shows the blocks of a text.
 fn decode_text(alloc: Global, blocks: &[u8]) -> Result<Texts, NoMemory>
     ensures { IfOk result (λ t. Gives (blocks_of true blocks.now) t.status t.journal.octets
         t.message.octets) }
 {
-    command(alloc, "decode", blocks)
+    let mut source = SureSource::new(alloc, blocks, PIECE)?;
+    let mut journal = SureSink::new(alloc);
+    let mut message = SureSink::new(alloc);
+    let status = decode(alloc, &mut source, &mut journal, &mut message);
+    Ok(Texts {
+        status,
+        journal,
+        message,
+    })
 }
 
 // What is answered of a status.

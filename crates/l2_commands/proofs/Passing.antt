@@ -1,15 +1,12 @@
 -- A script run line by line for its sums, by the lines that its text says.
-use Rattle.std.proofs.Common.{◌≡◌, ◌≤◌, ◌<◌, ◌+◌, ◌==◌, ◌∙◌, nat_lt, true, false, if◌then◌else◌, ℕ, List, [], ◌∷◌, ◌++◌}
-use Rattle.std.proofs.Common.{length, refl, ap, sym, arith, append-nil}
-use Rattle.std.specs.Prelude.{Option, None, Some, Ok, Err}
-use Rattle.l2_io.specs.Feeds.{until_feed, from_feed}
+use Rattle.std.proofs.Common.{◌≡◌, ◌≤◌, ◌<◌, ◌+◌, ◌∙◌, nat_lt, true, false, ℕ, List, [], ◌∷◌, ◌++◌}
+use Rattle.std.proofs.Common.{refl, ap, sym, arith, append-nil}
+use Rattle.std.specs.Prelude.{Option, None, Some}
+use Rattle.l2_io.specs.Feeds.{until_feed}
 use Rattle.l2_io.specs.Known.{HasRisen}
 use Rattle.air_record.specs.Text.{text_of, texts_of}
 use Rattle.air_record.specs.declared.record.Record.{Record}
 use Rattle.air_record.specs.declared.line.Line.{Line}
-use Rattle.air_text.specs.Reading.{read_of, read_words}
-use Rattle.air_text.specs.Words.{words_of}
-use Rattle.air_text.specs.declared.fault.LineRefusal.TheVariants.{Long}
 use Rattle.line_player.specs.Lines.{lines_ended, tail_of}
 use Rattle.air_run.specs.Run.{RunState, step}
 use Rattle.line_player.specs.Journal.{Outcome, Goes, Ends, Refuses, refused, finished, follow, on_line, close_by}

@@ -1,2 +1,2 @@
 pub mod Journals
-pub mod Main
+pub mod Generating

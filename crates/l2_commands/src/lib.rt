@@ -1,12 +1,11 @@
-//! The commands of the program, from the words of a command line and the octets of an input to the
-//! octets written.
+//! The commands that play scripts and show blocks, from the octets of an input to the octets
+//! written.
 #![tactic(auto)]
 
 mod blocks;
-mod command;
+mod commands;
 mod script;
 mod summing;
 
-pub use cli_words::{Command, Words};
-pub use command::run_command;
+pub use commands::{decode, generate, run};
 pub use line_player::Status;

@@ -1,7 +1,9 @@
-//! The commands of the program, with what is promised of every journal that they write.
+//! The program, from the words of a command line and the octets of an input to the octets written,
+//! with what is promised of every journal that it writes.
 #![tactic(auto)]
 
 mod top;
 
-pub use l2_commands::{Command, Status, Words};
+pub use cli_words::{Command, Words};
+pub use line_player::Status;
 pub use top::l2_main;

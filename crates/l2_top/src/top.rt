@@ -1,13 +1,38 @@
+ghost use Rattle.std.specs.Prelude.{Some};
 ghost use Rattle.cli_words.specs.Commands.{command_of};
-ghost use Rattle.l2_commands.specs.Main.{Does};
+ghost use Rattle.l2_top.specs.Main.{Does};
 ghost use Rattle.line_player.specs.Streams.{streams};
 ghost use Rattle.law_run.specs.Journals.{EveryJournal};
 
 use crate::{Command, Status, Words};
-use l2_commands::run_command;
+use check_command::check_journal;
+use l2_commands::{decode, generate, run};
 use l2_io::{Sink, Source};
 use law_run::every_journal;
+use line_player::{refuse_words, tell_no_memory};
 use std::alloc::Global;
+
+/// What is told where the words are no command.
+const USAGE: &[u8] = b"usage: l2 run | l2 decode | l2 generate N | l2 check\n";
+
+// Obeys a command.
+fn obey<S: Source, K: Sink, E: Sink>(
+    alloc: Global,
+    command: Command,
+    source: &mut S,
+    out: &mut K,
+    errs: &mut E,
+) -> Status
+    ensures { Does (Some command) (streams S.Source K.Sink E.Sink source.old out.old errs.old)
+        (streams S.Source K.Sink E.Sink source.new out.new errs.new) result }
+{
+    match command {
+        Command::Run => run(alloc, source, out, errs),
+        Command::Decode => decode(alloc, source, out, errs),
+        Command::Check => check_journal(alloc, source, out, errs),
+        Command::Generate { number } => generate(alloc, number, out, errs),
+    }
+}
 
 /// Runs the command that the words name.
 ///
@@ -26,5 +51,9 @@ pub fn l2_main<S: Source, K: Sink, E: Sink>(
     ensures promises { EveryJournal }
 {
     every_journal();
-    run_command(alloc, words, source, out, errs)
+    match words.command() {
+        Ok(Some(command)) => obey(alloc, command, source, out, errs),
+        Ok(None) => refuse_words(USAGE, errs),
+        Err(_) => tell_no_memory(errs),
+    }
 }
