@@ -53,9 +53,10 @@ pub(crate) struct Submission {
 /// t-PollRetransmit recalls a number where nothing may be taken (TS 36.322 5.2.2.3). Contracts see
 /// what is gathered (`specs/Giving.antt`).
 ///
-/// What it keeps doesn't grow with the journal: what `JournalFlows` keeps, what `FlowTakes` keeps
-/// of each side of a bearer of acknowledged data, the PDUs that RLC was given in the life that runs
-/// and that aren't confirmed, and the COUNTs that a status report marks.
+/// It keeps what `JournalFlows` keeps, the SDUs among it that unacknowledged flows hand up, which
+/// nobody takes here; what `FlowTakes` keeps of each side of a bearer of acknowledged data, the
+/// PDUs that RLC was given in the life that runs and that aren't confirmed, and the COUNTs that a
+/// status report marks. But for these SDUs it doesn't grow with the journal.
 #[derive(Drop)]
 pub struct JournalGiven {
     alloc: Global,
