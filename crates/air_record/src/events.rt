@@ -1,12 +1,13 @@
-ghost use Rattle.std.specs.Prelude.{◌≡◌, ◌++◌, ◌∷◌, [], ℕ, List, OnOk, map, codes};
+ghost use Rattle.std.specs.Prelude.{◌≡◌, ◌<◌, ◌++◌, ◌∷◌, [], OnOk, codes, length};
 ghost use Rattle.air_record.specs.Text.{worded, event_words, side_text, count_text, bitmap_text};
 ghost use Rattle.air_record.specs.Text.{how_text, mac_number, clock_text};
 ghost use Rattle.hex.specs.Hex.{encode_lower};
 ghost use Rattle.std.specs.Fmt.{decimal};
 
 use crate::naming::{
-    add_clock, add_how, lost_word, mac_why, pdcp_why, rlc_why, side_word, waits_word,
+    add_clock, add_how, add_side, lost_word, mac_why, pdcp_why, rlc_why, waits_word,
 };
+use crate::short_text::{PIECE, ShortText};
 use crate::word::{add_bitmap, add_count, add_hex, add_number, add_word};
 use bearer_types::Event;
 use l2_bits::{Bytes, NoMemory};
@@ -23,33 +24,37 @@ fn append_take(
     ensures { OnOk result (text.new ≡ text.old
         ++ worded (event_words (side_text side) (Event.Take lcid count len))) }
 {
-    text.append(b"take")?;
-    add_word(text, side_word(side))?;
-    add_number(text, u64::from(lcid))?;
-    add_count(text, count)?;
-    add_number(text, u64::from(len))?;
-    text.push(b'\n')
+    let mut short = ShortText::new();
+    short.add(b"take");
+    add_side(&mut short, side);
+    add_number(&mut short, u64::from(lcid));
+    add_count(&mut short, count);
+    add_number(&mut short, u64::from(len));
+    short.end_line(text)
 }
 
 fn append_send(text: &mut Bytes, side: Side, lcid: u8, how: How, sn: u32) -> Result<(), NoMemory>
     ensures { OnOk result (text.new ≡ text.old
         ++ worded (event_words (side_text side) (Event.Send lcid how sn))) }
 {
-    text.append(b"send")?;
-    add_word(text, side_word(side))?;
-    add_number(text, u64::from(lcid))?;
-    add_how(text, how)?;
-    add_number(text, u64::from(sn))?;
-    text.push(b'\n')
+    let mut short = ShortText::new();
+    short.add(b"send");
+    add_side(&mut short, side);
+    add_number(&mut short, u64::from(lcid));
+    add_how(&mut short, how);
+    add_number(&mut short, u64::from(sn));
+    short.end_line(text)
 }
 
 fn append_up(text: &mut Bytes, side: Side, lcid: u8, octets: &[u8]) -> Result<(), NoMemory>
     ensures { OnOk result (text.new ≡ text.old
         ++ worded (event_words (side_text side) (Event.Up lcid octets.now))) }
 {
-    text.append(b"up")?;
-    add_word(text, side_word(side))?;
-    add_number(text, u64::from(lcid))?;
+    let mut short = ShortText::new();
+    short.add(b"up");
+    add_side(&mut short, side);
+    add_number(&mut short, u64::from(lcid));
+    short.append_to(text)?;
     add_hex(text, octets)?;
     text.push(b'\n')
 }
@@ -64,10 +69,12 @@ fn append_report(
     ensures { OnOk result (text.new ≡ text.old
         ++ worded (event_words (side_text side) (Event.Report lcid fms bitmap.now))) }
 {
-    text.append(b"report")?;
-    add_word(text, side_word(side))?;
-    add_number(text, u64::from(lcid))?;
-    add_number(text, u64::from(fms))?;
+    let mut short = ShortText::new();
+    short.add(b"report");
+    add_side(&mut short, side);
+    add_number(&mut short, u64::from(lcid));
+    add_number(&mut short, u64::from(fms));
+    short.append_to(text)?;
     add_bitmap(text, bitmap)?;
     text.push(b'\n')
 }
@@ -82,9 +89,11 @@ fn append_integrity<'a>(
     ensures { OnOk result (text.new ≡ text.old
         ++ worded (event_words (side_text side) (Event.Integrity lcid found.now wanted.now))) }
 {
-    text.append(b"integrity")?;
-    add_word(text, side_word(side))?;
-    add_number(text, u64::from(lcid))?;
+    let mut short = ShortText::new();
+    short.add(b"integrity");
+    add_side(&mut short, side);
+    add_number(&mut short, u64::from(lcid));
+    short.append_to(text)?;
     add_hex(text, found)?;
     add_hex(text, wanted)?;
     text.push(b'\n')
@@ -94,12 +103,13 @@ fn append_bad_block(text: &mut Bytes, side: Side, fault: &MacRefusal) -> Result<
     ensures { OnOk result (text.new ≡ text.old
         ++ worded (event_words (side_text side) (Event.BadMac fault.now))) }
 {
-    text.append(b"bad")?;
-    add_word(text, side_word(side))?;
-    add_word(text, "mac")?;
-    add_number(text, u64::from(fault.at))?;
-    add_number(text, mac_why(fault.why))?;
-    text.push(b'\n')
+    let mut short = ShortText::new();
+    short.add(b"bad");
+    add_side(&mut short, side);
+    add_word(&mut short, "mac");
+    add_number(&mut short, u64::from(fault.at));
+    add_number(&mut short, mac_why(fault.why));
+    short.end_line(text)
 }
 
 // A PDU of a layer above MAC can't be read.
@@ -111,17 +121,19 @@ fn append_bad_pdu(
     at: u32,
     why: u64,
 ) -> Result<(), NoMemory>
+    requires layer { length layer.now < PIECE }
     ensures { OnOk result (text.new ≡ text.old
         ++ worded (codes "bad" ∷ side_text side ∷ layer.now ∷ decimal lcid ∷ decimal at
         ∷ decimal why ∷ [])) }
 {
-    text.append(b"bad")?;
-    add_word(text, side_word(side))?;
-    add_word(text, layer)?;
-    add_number(text, u64::from(lcid))?;
-    add_number(text, u64::from(at))?;
-    add_number(text, why)?;
-    text.push(b'\n')
+    let mut short = ShortText::new();
+    short.add(b"bad");
+    add_side(&mut short, side);
+    add_word(&mut short, layer);
+    add_number(&mut short, u64::from(lcid));
+    add_number(&mut short, u64::from(at));
+    add_number(&mut short, why);
+    short.end_line(text)
 }
 
 // What happens to a bearer, and which timer or why.
@@ -132,14 +144,17 @@ fn append_named(
     lcid: u8,
     which: &'static str,
 ) -> Result<(), NoMemory>
+    requires what { length what.now < PIECE }
+    requires which { length which.now < PIECE }
     ensures { OnOk result (text.new ≡ text.old
         ++ worded (what.now ∷ side_text side ∷ decimal lcid ∷ which.now ∷ [])) }
 {
-    text.append(what.as_bytes())?;
-    add_word(text, side_word(side))?;
-    add_number(text, u64::from(lcid))?;
-    add_word(text, which)?;
-    text.push(b'\n')
+    let mut short = ShortText::new();
+    short.add(what.as_bytes());
+    add_side(&mut short, side);
+    add_number(&mut short, u64::from(lcid));
+    add_word(&mut short, which);
+    short.end_line(text)
 }
 
 // What happens to a timer of a bearer.
@@ -151,14 +166,16 @@ fn append_timer(
     lcid: u8,
     clock: Clock,
 ) -> Result<(), NoMemory>
+    requires what { length what.now < PIECE }
     ensures { OnOk result (text.new ≡ text.old
         ++ worded (what.now ∷ side_text side ∷ decimal lcid ∷ clock_text clock ∷ [])) }
 {
-    text.append(what.as_bytes())?;
-    add_word(text, side_word(side))?;
-    add_number(text, u64::from(lcid))?;
-    add_clock(text, clock)?;
-    text.push(b'\n')
+    let mut short = ShortText::new();
+    short.add(what.as_bytes());
+    add_side(&mut short, side);
+    add_number(&mut short, u64::from(lcid));
+    add_clock(&mut short, clock);
+    short.end_line(text)
 }
 
 // What happens to a bearer, with a number or a length.
@@ -169,14 +186,16 @@ fn append_numbered(
     lcid: u8,
     which: u32,
 ) -> Result<(), NoMemory>
+    requires what { length what.now < PIECE }
     ensures { OnOk result (text.new ≡ text.old
         ++ worded (what.now ∷ side_text side ∷ decimal lcid ∷ decimal which ∷ [])) }
 {
-    text.append(what.as_bytes())?;
-    add_word(text, side_word(side))?;
-    add_number(text, u64::from(lcid))?;
-    add_number(text, u64::from(which))?;
-    text.push(b'\n')
+    let mut short = ShortText::new();
+    short.add(what.as_bytes());
+    add_side(&mut short, side);
+    add_number(&mut short, u64::from(lcid));
+    add_number(&mut short, u64::from(which));
+    short.end_line(text)
 }
 
 /// Adds the text of what happens at one end, and a line feed.

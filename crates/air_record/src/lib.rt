@@ -9,6 +9,7 @@ mod lines;
 mod naming;
 mod printing;
 mod record;
+mod short_text;
 mod shown;
 mod word;
 

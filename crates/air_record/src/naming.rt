@@ -1,5 +1,5 @@
 // Words of enums. Those that come in most TTIs are added with the space before them, as literals.
-ghost use Rattle.std.specs.Prelude.{◌≡◌, ◌++◌, ◌∷◌, OnOk};
+ghost use Rattle.std.specs.Prelude.{◌≡◌, ◌≤◌, ◌<◌, ◌+◌, ◌++◌, ◌∷◌, length};
 ghost use Rattle.air_record.specs.Text.{side_text, kind_text, clock_text, cipher_text, how_text};
 ghost use Rattle.air_record.specs.Text.{waits_text, direction_text, arrived_text, place_text};
 ghost use Rattle.air_record.specs.Text.{state_text, fate_text, outcome_text, heard_text};
@@ -8,24 +8,28 @@ ghost use Rattle.air_record.specs.Text.{rlc_number, pdcp_number};
 
 use crate::line::{Fate, Outcome};
 use crate::record::{Arrived, NoPlace, State};
+use crate::short_text::{PIECE, ROOM, ShortText};
 use eps_sec::Cipher;
-use l2_bits::{Bytes, NoMemory};
 use l2_types::{Clock, How, Kind, Lost, Side, Waits};
 use mac_pdu::{Direction, MacWhy};
 use pdcp_pdu::PdcpWhy;
 use rlc_pdu::RlcWhy;
 
-pub fn side_word(one: Side) -> &'static str
-    ensures { result.now ≡ side_text one }
+#[inline(always)]
+pub fn add_side(short: &mut ShortText, one: Side)
+    requires { length short.old + PIECE ≤ ROOM }
+    ensures text { short.new ≡ short.old ++ 32 ∷ side_text one }
+    ensures room { length short.new ≤ length short.old + PIECE }
 {
     match one {
-        Side::Ue => "ue",
-        Side::Nb => "nb",
+        Side::Ue => short.add(b" ue"),
+        Side::Nb => short.add(b" nb"),
     }
 }
 
 pub fn kind_word(one: Kind) -> &'static str
-    ensures { result.now ≡ kind_text one }
+    ensures word { result.now ≡ kind_text one }
+    ensures short { length result.now < PIECE }
 {
     match one {
         Kind::Tm => "tm",
@@ -36,18 +40,21 @@ pub fn kind_word(one: Kind) -> &'static str
 }
 
 #[inline(always)]
-pub fn add_clock(text: &mut Bytes, one: Clock) -> Result<(), NoMemory>
-    ensures { OnOk result (text.new ≡ text.old ++ 32 ∷ clock_text one) }
+pub fn add_clock(short: &mut ShortText, one: Clock)
+    requires { length short.old + PIECE ≤ ROOM }
+    ensures text { short.new ≡ short.old ++ 32 ∷ clock_text one }
+    ensures room { length short.new ≤ length short.old + PIECE }
 {
     match one {
-        Clock::Poll => text.append(b" poll"),
-        Clock::Reorder => text.append(b" reorder"),
-        Clock::Prohibit => text.append(b" prohibit"),
+        Clock::Poll => short.add(b" poll"),
+        Clock::Reorder => short.add(b" reorder"),
+        Clock::Prohibit => short.add(b" prohibit"),
     }
 }
 
 pub fn cipher_word(one: Cipher) -> &'static str
-    ensures { result.now ≡ cipher_text one }
+    ensures word { result.now ≡ cipher_text one }
+    ensures short { length result.now < PIECE }
 {
     match one {
         Cipher::Eea0 => "0",
@@ -56,19 +63,22 @@ pub fn cipher_word(one: Cipher) -> &'static str
 }
 
 #[inline(always)]
-pub fn add_how(text: &mut Bytes, one: How) -> Result<(), NoMemory>
-    ensures { OnOk result (text.new ≡ text.old ++ 32 ∷ how_text one) }
+pub fn add_how(short: &mut ShortText, one: How)
+    requires { length short.old + PIECE ≤ ROOM }
+    ensures text { short.new ≡ short.old ++ 32 ∷ how_text one }
+    ensures room { length short.new ≤ length short.old + PIECE }
 {
     match one {
-        How::Tm => text.append(b" tm"),
-        How::New => text.append(b" new"),
-        How::Re => text.append(b" re"),
-        How::Status => text.append(b" status"),
+        How::Tm => short.add(b" tm"),
+        How::New => short.add(b" new"),
+        How::Re => short.add(b" re"),
+        How::Status => short.add(b" status"),
     }
 }
 
 pub fn waits_word(one: Waits) -> &'static str
-    ensures { result.now ≡ waits_text one }
+    ensures word { result.now ≡ waits_text one }
+    ensures short { length result.now < PIECE }
 {
     match one {
         Waits::Stopped => "stopped",
@@ -78,29 +88,35 @@ pub fn waits_word(one: Waits) -> &'static str
     }
 }
 
-pub fn direction_word(one: Direction) -> &'static str
-    ensures { result.now ≡ direction_text one }
+#[inline(always)]
+pub fn add_direction(short: &mut ShortText, one: Direction)
+    requires { length short.old + PIECE ≤ ROOM }
+    ensures text { short.new ≡ short.old ++ 32 ∷ direction_text one }
+    ensures room { length short.new ≤ length short.old + PIECE }
 {
     match one {
-        Direction::Down => "dl",
-        Direction::Up => "ul",
+        Direction::Down => short.add(b" dl"),
+        Direction::Up => short.add(b" ul"),
     }
 }
 
 #[inline(always)]
-pub fn add_arrived(text: &mut Bytes, one: Arrived) -> Result<(), NoMemory>
-    ensures { OnOk result (text.new ≡ text.old ++ 32 ∷ arrived_text one) }
+pub fn add_arrived(short: &mut ShortText, one: Arrived)
+    requires { length short.old + PIECE ≤ ROOM }
+    ensures text { short.new ≡ short.old ++ 32 ∷ arrived_text one }
+    ensures room { length short.new ≤ length short.old + PIECE }
 {
     match one {
-        Arrived::Got => text.append(b" got"),
-        Arrived::Dup => text.append(b" dup"),
-        Arrived::Bad => text.append(b" bad"),
-        Arrived::Nothing => text.append(b" none"),
+        Arrived::Got => short.add(b" got"),
+        Arrived::Dup => short.add(b" dup"),
+        Arrived::Bad => short.add(b" bad"),
+        Arrived::Nothing => short.add(b" none"),
     }
 }
 
 pub fn place_word(one: NoPlace) -> &'static str
-    ensures { result.now ≡ place_text one }
+    ensures word { result.now ≡ place_text one }
+    ensures short { length result.now < PIECE }
 {
     match one {
         NoPlace::Full => "full",
@@ -109,7 +125,8 @@ pub fn place_word(one: NoPlace) -> &'static str
 }
 
 pub fn state_word(one: State) -> &'static str
-    ensures { result.now ≡ state_text one }
+    ensures word { result.now ≡ state_text one }
+    ensures short { length result.now < PIECE }
 {
     match one {
         State::Ok => "ok",
@@ -120,48 +137,58 @@ pub fn state_word(one: State) -> &'static str
 }
 
 #[inline(always)]
-pub fn add_fresh(text: &mut Bytes, one: bool) -> Result<(), NoMemory>
-    ensures { OnOk result (text.new ≡ text.old ++ 32 ∷ fresh_text one) }
+pub fn add_fresh(short: &mut ShortText, one: bool)
+    requires { length short.old + PIECE ≤ ROOM }
+    ensures text { short.new ≡ short.old ++ 32 ∷ fresh_text one }
+    ensures room { length short.new ≤ length short.old + PIECE }
 {
     match one {
-        true => text.append(b" new"),
-        false => text.append(b" re"),
+        true => short.add(b" new"),
+        false => short.add(b" re"),
     }
 }
 
 #[inline(always)]
-pub fn add_heard(text: &mut Bytes, one: Option<bool>) -> Result<(), NoMemory>
-    ensures { OnOk result (text.new ≡ text.old ++ 32 ∷ heard_text one) }
+pub fn add_heard(short: &mut ShortText, one: Option<bool>)
+    requires { length short.old + PIECE ≤ ROOM }
+    ensures text { short.new ≡ short.old ++ 32 ∷ heard_text one }
+    ensures room { length short.new ≤ length short.old + PIECE }
 {
     match one {
-        None => text.append(b" -"),
-        Some(true) => text.append(b" ack"),
-        Some(false) => text.append(b" nack"),
+        None => short.add(b" -"),
+        Some(true) => short.add(b" ack"),
+        Some(false) => short.add(b" nack"),
     }
 }
 
 #[inline(always)]
-fn add_fate(text: &mut Bytes, fate: Fate, flipped: bool) -> Result<(), NoMemory>
-    ensures { OnOk result (text.new ≡ text.old ++ 32 ∷ fate_text fate flipped) }
+fn add_fate(short: &mut ShortText, fate: Fate, flipped: bool)
+    requires { length short.old + PIECE ≤ ROOM }
+    ensures text { short.new ≡ short.old ++ 32 ∷ fate_text fate flipped }
+    ensures room { length short.new ≤ length short.old + PIECE }
 {
     match (fate, flipped) {
-        (Fate::Ok, false) => text.append(b" ok"),
-        (Fate::Ok, true) => text.append(b" ok~"),
-        (Fate::Bad, false) => text.append(b" bad"),
-        (Fate::Bad, true) => text.append(b" bad~"),
-        (Fate::Miss, false) => text.append(b" miss"),
-        (Fate::Miss, true) => text.append(b" miss~"),
+        (Fate::Ok, false) => short.add(b" ok"),
+        (Fate::Ok, true) => short.add(b" ok~"),
+        (Fate::Bad, false) => short.add(b" bad"),
+        (Fate::Bad, true) => short.add(b" bad~"),
+        (Fate::Miss, false) => short.add(b" miss"),
+        (Fate::Miss, true) => short.add(b" miss~"),
     }
 }
 
-pub fn add_outcome(text: &mut Bytes, outcome: Outcome) -> Result<(), NoMemory>
-    ensures { OnOk result (text.new ≡ text.old ++ 32 ∷ outcome_text outcome) }
+#[inline(always)]
+pub fn add_outcome(short: &mut ShortText, outcome: Outcome)
+    requires { length short.old + PIECE ≤ ROOM }
+    ensures text { short.new ≡ short.old ++ 32 ∷ outcome_text outcome }
+    ensures room { length short.new ≤ length short.old + PIECE }
 {
-    add_fate(text, outcome.fate, outcome.flipped)
+    add_fate(short, outcome.fate, outcome.flipped)
 }
 
 pub fn lost_word(one: Lost) -> &'static str
-    ensures { result.now ≡ lost_text one }
+    ensures word { result.now ≡ lost_text one }
+    ensures short { length result.now < PIECE }
 {
     match one {
         Lost::NoBearer => "nobearer",
@@ -177,23 +204,29 @@ pub fn lost_word(one: Lost) -> &'static str
     }
 }
 
-pub fn bit_word(one: bool) -> &'static str
-    ensures { result.now ≡ bit_text one }
+#[inline(always)]
+pub fn add_bit(short: &mut ShortText, one: bool)
+    requires { length short.old + PIECE ≤ ROOM }
+    ensures text { short.new ≡ short.old ++ 32 ∷ bit_text one }
+    ensures room { length short.new ≤ length short.old + 2 }
 {
     match one {
-        true => "1",
-        false => "0",
+        true => short.add(b" 1"),
+        false => short.add(b" 0"),
     }
 }
 
-pub fn framing_word(fi: u8) -> &'static str
-    ensures { result.now ≡ framing_text fi }
+#[inline(always)]
+pub fn add_framing(short: &mut ShortText, fi: u8)
+    requires { length short.old + PIECE ≤ ROOM }
+    ensures text { short.new ≡ short.old ++ 32 ∷ framing_text fi }
+    ensures room { length short.new ≤ length short.old + 3 }
 {
     match fi {
-        0 => "00",
-        1 => "01",
-        2 => "10",
-        _ => "11",
+        0 => short.add(b" 00"),
+        1 => short.add(b" 01"),
+        2 => short.add(b" 10"),
+        _ => short.add(b" 11"),
     }
 }
 

@@ -1,4 +1,4 @@
-ghost use Rattle.std.specs.Prelude.{◌≡◌, ◌++◌, ◌∷◌, [], ℕ, List, IfOk, OnOk, map, codes};
+ghost use Rattle.std.specs.Prelude.{◌≡◌, ◌<◌, ◌++◌, ◌∷◌, [], IfOk, OnOk, codes, length};
 ghost use Rattle.air_record.specs.Text.{worded, event_words, bsr_words, control_words};
 ghost use Rattle.air_record.specs.Text.{record_words, side_text, accepted_text, text_of};
 ghost use Rattle.hex.specs.Hex.{encode_lower};
@@ -8,29 +8,30 @@ use crate::events::append_event;
 use crate::line::Line;
 use crate::lines::append_line;
 use crate::naming::{
-    add_arrived, add_fresh, add_heard, direction_word, mac_why, pdcp_why, place_word, rlc_why,
-    side_word, state_word,
+    add_arrived, add_direction, add_fresh, add_heard, add_side, mac_why, pdcp_why, place_word,
+    rlc_why, state_word,
 };
 use crate::record::{Arrived, NoPlace, Record, State};
+use crate::short_text::{PIECE, ShortText};
 use crate::shown::{
     append_amd, append_bad, append_control, append_report, append_segment, append_shown,
     append_signalling, append_sized, append_status, append_umd, append_value,
 };
-use crate::word::{add_hex, add_number, add_word, append_counted};
+use crate::word::{add_hex, add_number, add_word, end_counted};
 use l2_bits::{Bytes, NoMemory};
 use l2_types::Side;
 use mac_pdu::Direction;
 use std::alloc::Global;
-use text_digits::append_number;
 
 /// Adds the text of the record of an accepted line.
 pub fn append_accepted(text: &mut Bytes, place: u32, line: &Line) -> Result<(), NoMemory>
     ensures { OnOk result (text.new ≡ text.old ++ accepted_text place line.now) }
 {
-    text.append(b"line ")?;
-    append_number(text, u64::from(place))?;
-    text.push(b' ')?;
-    append_line(text, line)
+    let mut short = ShortText::new();
+    short.add(b"line");
+    add_number(&mut short, u64::from(place));
+    short.add(b" ");
+    append_line(text, &mut short, line)
 }
 
 fn append_block(
@@ -44,11 +45,13 @@ fn append_block(
     ensures { OnOk result (text.new ≡ text.old
         ++ worded (record_words (Record.Block direction process fresh rv octets.now))) }
 {
-    text.append(b"block")?;
-    add_word(text, direction_word(direction))?;
-    add_number(text, u64::from(process))?;
-    add_fresh(text, fresh)?;
-    add_number(text, u64::from(rv))?;
+    let mut short = ShortText::new();
+    short.add(b"block");
+    add_direction(&mut short, direction);
+    add_number(&mut short, u64::from(process));
+    add_fresh(&mut short, fresh);
+    add_number(&mut short, u64::from(rv));
+    short.append_to(text)?;
     add_hex(text, octets)?;
     text.push(b'\n')
 }
@@ -62,30 +65,34 @@ fn append_air(
     ensures { OnOk result (text.new ≡ text.old
         ++ worded (record_words (Record.Air direction what heard))) }
 {
-    text.append(b"air")?;
-    add_word(text, direction_word(direction))?;
-    add_arrived(text, what)?;
-    add_heard(text, heard)?;
-    text.push(b'\n')
+    let mut short = ShortText::new();
+    short.add(b"air");
+    add_direction(&mut short, direction);
+    add_arrived(&mut short, what);
+    add_heard(&mut short, heard);
+    short.end_line(text)
 }
 
 fn append_refused(text: &mut Bytes, side: Side, lcid: u8, why: NoPlace) -> Result<(), NoMemory>
     ensures { OnOk result (text.new ≡ text.old
         ++ worded (record_words (Record.Refused side lcid why))) }
 {
-    text.append(b"refused")?;
-    add_word(text, side_word(side))?;
-    add_number(text, u64::from(lcid))?;
-    add_word(text, place_word(why))?;
-    text.push(b'\n')
+    let mut short = ShortText::new();
+    short.add(b"refused");
+    add_side(&mut short, side);
+    add_number(&mut short, u64::from(lcid));
+    add_word(&mut short, place_word(why));
+    short.end_line(text)
 }
 
 fn append_looped(text: &mut Bytes, lcid: u8, octets: &[u8]) -> Result<(), NoMemory>
     ensures { OnOk result (text.new ≡ text.old
         ++ worded (record_words (Record.Looped lcid octets.now))) }
 {
-    text.append(b"loop")?;
-    add_number(text, u64::from(lcid))?;
+    let mut short = ShortText::new();
+    short.add(b"loop");
+    add_number(&mut short, u64::from(lcid));
+    short.append_to(text)?;
     add_hex(text, octets)?;
     text.push(b'\n')
 }
@@ -101,13 +108,23 @@ fn append_sum(
     ensures { OnOk result (text.new ≡ text.old
         ++ worded (record_words (Record.Sum direction lcid submitted delivered state))) }
 {
-    text.append(b"sum")?;
-    add_word(text, direction_word(direction))?;
-    add_number(text, u64::from(lcid))?;
-    add_number(text, submitted)?;
-    add_number(text, delivered)?;
-    add_word(text, state_word(state))?;
-    text.push(b'\n')
+    let mut short = ShortText::new();
+    short.add(b"sum");
+    add_direction(&mut short, direction);
+    add_number(&mut short, u64::from(lcid));
+    add_number(&mut short, submitted);
+    add_number(&mut short, delivered);
+    add_word(&mut short, state_word(state));
+    short.end_line(text)
+}
+
+// A record with one number.
+#[inline(always)]
+fn append_counted(text: &mut Bytes, name: &'static str, count: u64) -> Result<(), NoMemory>
+    requires { length name.now < PIECE }
+    ensures { OnOk result (text.new ≡ text.old ++ worded (name.now ∷ decimal count ∷ [])) }
+{
+    end_counted(text, &mut ShortText::new(), name, count)
 }
 
 /// Adds the text of a record, which ends with a line feed, to a text.

@@ -1,13 +1,13 @@
-ghost use Rattle.std.specs.Prelude.{◌≡◌, ◌++◌, ◌∷◌, [], ℕ, List, OnOk, map, codes};
-ghost use Rattle.air_record.specs.Text.{worded, bsr_words, control_words, record_words, bit_text};
+ghost use Rattle.std.specs.Prelude.{◌≡◌, ◌<◌, ◌≤◌, ◌+◌, ◌*◌, ◌++◌, ◌∷◌, [], OnOk, codes, length};
+ghost use Rattle.air_record.specs.Text.{worded, ended, bsr_words, control_words, record_words, bit_text};
 ghost use Rattle.air_record.specs.Text.{framing_text, bitmap_text};
-ghost use Rattle.std.specs.List.{slice_index};
 ghost use Rattle.hex.specs.Hex.{encode_lower};
 ghost use Rattle.std.specs.Fmt.{decimal};
 
-use crate::naming::{bit_word, direction_word, framing_word};
+use crate::naming::{add_bit, add_direction, add_framing};
 use crate::record::{Lens, Record};
-use crate::word::{add_bitmap, add_hex, add_lens, add_nacks, add_number, add_word};
+use crate::short_text::{PIECE, ShortText};
+use crate::word::{add_bitmap, add_hex, add_number, add_word, end_with_lens, end_with_nacks};
 use l2_bits::{Bytes, NoMemory};
 use mac_pdu::{Bsr, Control, Direction};
 use rlc_pdu::Nacks;
@@ -15,11 +15,13 @@ use rlc_pdu::Nacks;
 /// A part of a block that has one number: a length, or a value.
 #[inline(always)]
 pub fn append_value(text: &mut Bytes, what: &'static str, value: u32) -> Result<(), NoMemory>
+    requires what { length what.now < PIECE }
     ensures { OnOk result (text.new ≡ text.old ++ worded (what.now ∷ decimal value ∷ [])) }
 {
-    text.append(what.as_bytes())?;
-    add_number(text, u64::from(value))?;
-    text.push(b'\n')
+    let mut short = ShortText::new();
+    short.add(what.as_bytes());
+    add_number(&mut short, u64::from(value));
+    short.end_line(text)
 }
 
 /// A part of a block that has a number and a length.
@@ -30,45 +32,57 @@ pub fn append_sized(
     which: u32,
     len: u32,
 ) -> Result<(), NoMemory>
+    requires what { length what.now < PIECE }
     ensures { OnOk result (text.new ≡ text.old
         ++ worded (what.now ∷ decimal which ∷ decimal len ∷ [])) }
 {
-    text.append(what.as_bytes())?;
-    add_number(text, u64::from(which))?;
-    add_number(text, u64::from(len))?;
-    text.push(b'\n')
+    let mut short = ShortText::new();
+    short.add(what.as_bytes());
+    add_number(&mut short, u64::from(which));
+    add_number(&mut short, u64::from(len));
+    short.end_line(text)
 }
 
 fn append_group(text: &mut Bytes, what: &'static str, group: u8, level: u8) -> Result<(), NoMemory>
+    requires what { length what.now < PIECE }
     ensures { OnOk result (text.new ≡ text.old
         ++ worded (codes "mac" ∷ codes "bsr" ∷ what.now ∷ decimal group ∷ decimal level ∷ [])) }
 {
-    text.append(b"mac bsr")?;
-    add_word(text, what)?;
-    add_number(text, u64::from(group))?;
-    add_number(text, u64::from(level))?;
-    text.push(b'\n')
+    let mut short = ShortText::new();
+    short.add(b"mac bsr");
+    add_word(&mut short, what);
+    add_number(&mut short, u64::from(group));
+    add_number(&mut short, u64::from(level));
+    short.end_line(text)
 }
 
-// A part of a block that has four numbers.
-fn append_four(text: &mut Bytes, what: &'static str, levels: [u8; 4]) -> Result<(), NoMemory>
-    ensures { OnOk result (text.new ≡ text.old
-        ++ worded (what.now ∷ decimal (slice_index levels 0) ∷ decimal (slice_index levels 1)
-        ∷ decimal (slice_index levels 2) ∷ decimal (slice_index levels 3) ∷ [])) }
+// Ends a line by four numbers.
+fn end_with_four(
+    text: &mut Bytes,
+    short: &mut ShortText,
+    a: u8,
+    b: u8,
+    c: u8,
+    d: u8,
+) -> Result<(), NoMemory>
+    requires { length short.old ≤ PIECE }
+    ensures { OnOk result (text.new ≡ text.old ++ (short.old
+        ++ ended (decimal a ∷ decimal b ∷ decimal c ∷ decimal d ∷ []))) }
 {
-    let [a, b, c, d] = levels;
-    text.append(what.as_bytes())?;
-    add_number(text, u64::from(a))?;
-    add_number(text, u64::from(b))?;
-    add_number(text, u64::from(c))?;
-    add_number(text, u64::from(d))?;
-    text.push(b'\n')
+    add_number(short, u64::from(a));
+    add_number(short, u64::from(b));
+    add_number(short, u64::from(c));
+    add_number(short, u64::from(d));
+    short.end_line(text)
 }
 
 fn append_levels(text: &mut Bytes, levels: [u8; 4]) -> Result<(), NoMemory>
     ensures { OnOk result (text.new ≡ text.old ++ worded (bsr_words (Bsr.Long levels))) }
 {
-    append_four(text, "mac bsr long", levels)
+    let [a, b, c, d] = levels;
+    let mut short = ShortText::new();
+    short.add(b"mac bsr long");
+    end_with_four(text, &mut short, a, b, c, d)
 }
 
 fn append_buffers(text: &mut Bytes, report: &Bsr) -> Result<(), NoMemory>
@@ -82,11 +96,14 @@ fn append_buffers(text: &mut Bytes, report: &Bsr) -> Result<(), NoMemory>
 }
 
 fn append_identity(text: &mut Bytes, what: &'static str, identity: &[u8]) -> Result<(), NoMemory>
+    requires what { length what.now < PIECE }
     ensures { OnOk result (text.new ≡ text.old
         ++ worded (codes "mac" ∷ what.now ∷ encode_lower identity.now ∷ [])) }
 {
-    text.append(b"mac")?;
-    add_word(text, what)?;
+    let mut short = ShortText::new();
+    short.add(b"mac");
+    add_word(&mut short, what);
+    short.append_to(text)?;
     add_hex(text, identity)?;
     text.push(b'\n')
 }
@@ -113,29 +130,27 @@ pub fn append_umd(text: &mut Bytes, sn: u32, fi: u8, lens: &Lens) -> Result<(), 
     ensures { OnOk result (text.new ≡ text.old
         ++ worded (record_words (Record.RlcUm sn fi lens.now))) }
 {
-    text.append(b"rlc um")?;
-    add_number(text, u64::from(sn))?;
-    add_word(text, framing_word(fi))?;
-    add_lens(text, lens)?;
-    text.push(b'\n')
+    let mut short = ShortText::new();
+    short.add(b"rlc um");
+    add_number(&mut short, u64::from(sn));
+    add_framing(&mut short, fi);
+    end_with_lens(text, &mut short, lens)
 }
 
-// The fields that an AMD PDU and a segment of one begin with.
+// Begins with the fields that an AMD PDU and a segment of one begin with.
 #[inline(always)]
-fn append_amd_head(
-    text: &mut Bytes,
-    kind: &'static str,
-    sn: u32,
-    poll: bool,
-    fi: u8,
-) -> Result<(), NoMemory>
-    ensures { OnOk result (text.new ≡ text.old
-        ++ (kind.now ++ 32 ∷ (decimal sn ++ 32 ∷ (bit_text poll ++ 32 ∷ framing_text fi)))) }
+fn amd_head(kind: &'static str, sn: u32, poll: bool, fi: u8) -> ShortText
+    requires { length kind.now < PIECE }
+    ensures text { result
+        ≡ kind.now ++ 32 ∷ (decimal sn ++ 32 ∷ (bit_text poll ++ 32 ∷ framing_text fi)) }
+    ensures room { length result ≤ 2 * PIECE + 5 }
 {
-    text.append(kind.as_bytes())?;
-    add_number(text, u64::from(sn))?;
-    add_word(text, bit_word(poll))?;
-    add_word(text, framing_word(fi))
+    let mut short = ShortText::new();
+    short.add(kind.as_bytes());
+    add_number(&mut short, u64::from(sn));
+    add_bit(&mut short, poll);
+    add_framing(&mut short, fi);
+    short
 }
 
 /// An AMD PDU.
@@ -149,9 +164,8 @@ pub fn append_amd(
     ensures { OnOk result (text.new ≡ text.old
         ++ worded (record_words (Record.RlcAm sn poll fi lens.now))) }
 {
-    append_amd_head(text, "rlc am", sn, poll, fi)?;
-    add_lens(text, lens)?;
-    text.push(b'\n')
+    let mut short = amd_head("rlc am", sn, poll, fi);
+    end_with_lens(text, &mut short, lens)
 }
 
 /// An AMD PDU segment.
@@ -167,11 +181,10 @@ pub fn append_segment(
     ensures { OnOk result (text.new ≡ text.old
         ++ worded (record_words (Record.RlcSeg sn poll fi last so lens.now))) }
 {
-    append_amd_head(text, "rlc seg", sn, poll, fi)?;
-    add_word(text, bit_word(last))?;
-    add_number(text, u64::from(so))?;
-    add_lens(text, lens)?;
-    text.push(b'\n')
+    let mut short = amd_head("rlc seg", sn, poll, fi);
+    add_bit(&mut short, last);
+    add_number(&mut short, u64::from(so));
+    end_with_lens(text, &mut short, lens)
 }
 
 /// A STATUS.
@@ -179,10 +192,10 @@ pub fn append_status(text: &mut Bytes, ack: u32, nacks: &Nacks) -> Result<(), No
     ensures { OnOk result (text.new ≡ text.old
         ++ worded (record_words (Record.RlcStatus ack nacks.now))) }
 {
-    text.append(b"rlc status")?;
-    add_number(text, u64::from(ack))?;
-    add_nacks(text, nacks)?;
-    text.push(b'\n')
+    let mut short = ShortText::new();
+    short.add(b"rlc status");
+    add_number(&mut short, u64::from(ack));
+    end_with_nacks(text, &mut short, nacks)
 }
 
 /// A PDCP PDU of a signalling bearer.
@@ -190,9 +203,11 @@ pub fn append_signalling(text: &mut Bytes, sn: u32, len: u32, tag: &[u8]) -> Res
     ensures { OnOk result (text.new ≡ text.old
         ++ worded (record_words (Record.PdcpSrb sn len tag.now))) }
 {
-    text.append(b"pdcp srb")?;
-    add_number(text, u64::from(sn))?;
-    add_number(text, u64::from(len))?;
+    let mut short = ShortText::new();
+    short.add(b"pdcp srb");
+    add_number(&mut short, u64::from(sn));
+    add_number(&mut short, u64::from(len));
+    short.append_to(text)?;
     add_hex(text, tag)?;
     text.push(b'\n')
 }
@@ -204,11 +219,14 @@ fn append_mapped(
     from: u32,
     bitmap: &[u8],
 ) -> Result<(), NoMemory>
+    requires what { length what.now < PIECE }
     ensures { OnOk result (text.new ≡ text.old
         ++ worded (what.now ∷ decimal from ∷ bitmap_text bitmap.now ∷ [])) }
 {
-    text.append(what.as_bytes())?;
-    add_number(text, u64::from(from))?;
+    let mut short = ShortText::new();
+    short.add(what.as_bytes());
+    add_number(&mut short, u64::from(from));
+    short.append_to(text)?;
     add_bitmap(text, bitmap)?;
     text.push(b'\n')
 }
@@ -231,21 +249,24 @@ pub fn append_shown(
     ensures { OnOk result (text.new ≡ text.old
         ++ worded (record_words (Record.Shown place direction len))) }
 {
-    text.append(b"record")?;
-    add_number(text, u64::from(place))?;
-    add_word(text, direction_word(direction))?;
-    add_number(text, u64::from(len))?;
-    text.push(b'\n')
+    let mut short = ShortText::new();
+    short.add(b"record");
+    add_number(&mut short, u64::from(place));
+    add_direction(&mut short, direction);
+    add_number(&mut short, u64::from(len));
+    short.end_line(text)
 }
 
 /// A shown PDU that can't be read: at which octet, and why by its number.
 pub fn append_bad(text: &mut Bytes, layer: &'static str, at: u32, why: u64) -> Result<(), NoMemory>
+    requires layer { length layer.now < PIECE }
     ensures { OnOk result (text.new ≡ text.old
         ++ worded (codes "bad" ∷ layer.now ∷ decimal at ∷ decimal why ∷ [])) }
 {
-    text.append(b"bad")?;
-    add_word(text, layer)?;
-    add_number(text, u64::from(at))?;
-    add_number(text, why)?;
-    text.push(b'\n')
+    let mut short = ShortText::new();
+    short.add(b"bad");
+    add_word(&mut short, layer);
+    add_number(&mut short, u64::from(at));
+    add_number(&mut short, why);
+    short.end_line(text)
 }
