@@ -105,10 +105,15 @@ pub fn count(text: &[u8]) -> Result<Option<u32>, TextFault>
     Ok(Some(number))
 }
 
+// All of the text is looked at, since a loop that may end early takes one octet at a time.
 fn has_no_capital(text: &[u8]) -> bool
     ensures { result ≡ list_all is_no_capital text.now }
 {
-    text.iter().all(|x| *x < b'A' || b'F' < *x)
+    let mut none = true;
+    for x in text {
+        none = none & (*x < b'A' || b'F' < *x);
+    }
+    none
 }
 
 /// Octets in hexadecimal digits of lower case, one at least.
