@@ -11,7 +11,7 @@ use Rattle.air_record.specs.declared.record.Record.TheVariants as records
 use Rattle.air_record.specs.Outcomes.{intact}
 use Rattle.mac_pdu.specs.declared.item.Direction.{Direction}
 use Rattle.mac_pdu.specs.declared.item.Direction.TheVariants.{Down, Up}
-use Rattle.promises.specs.Air.{Flies, FliesIntact, InTurn}
+use Rattle.promises.specs.Air.{InTurn}
 use Rattle.promises.specs.Carried.{AreBuilt, seen}
 use Rattle.promises.specs.Records.{is_of_air}
 use Rattle.harq.specs.SendHistory.{IsRight as AreResent}
@@ -26,7 +26,7 @@ use Rattle.journal_air.specs.declared.granted.Due.TheVariants.{Nothing, Once, Of
 use Rattle.journal_air.specs.Checking.{Checking, after_tti, granted_often, tti_begun}
 use Rattle.journal_air.specs.Checking.{after_records, due_of}
 use Rattle.journal_air.specs.Checking.{is_met}
-use Rattle.promises.specs.RightAir.{Ttis, HasItsTtis}
+use Rattle.promises.specs.RightAir.{FliesInAnyOrder, FliesInDrain, Ttis, HasItsTtis}
 use Rattle.journal_air.proofs.Tellings.{heard_append, AllAir}
 use Rattle.journal_air.proofs.Steps.{AllZero, Chunk, front, chunks}
 use Rattle.journal_air.proofs.Steps.{is_inside, joined, AllInside, AreInside}
@@ -121,13 +121,15 @@ once_sound maximum a b up_grant up down_grant down g c hs (x ∷ ks) g_is k lost
         told_are = ap (λ (n : ℕ). records.Tti n ∷ (x.flown ++ [])) s.number_is
             ∙ ap (λ (l : List Record). records.Tti c.next ∷ l) (append-nil x.flown);
         is_first = refl;
-        is_second = record {
-          asleep = s.flown_right.asleep;
-          flies = subst
-              (λ (y : Granted). Flies s.flown_right.asleep c.next y.up_grant y.up y.down_grant y.down x.flown) g_is
-              (subst (λ (n : ℕ). Flies s.flown_right.asleep n g.up_grant g.up g.down_grant g.down x.flown) s.number_is
-              s.flown_right.flies);
-        };
+        is_second = (
+          s.flown_right.asleep,
+          subst
+              (λ (y : Granted).
+              FliesInAnyOrder s.flown_right.asleep c.next y.up_grant y.up y.down_grant y.down x.flown) g_is
+              (subst
+              (λ (n : ℕ). FliesInAnyOrder s.flown_right.asleep n g.up_grant g.up g.down_grant g.down x.flown)
+              s.number_is s.flown_right.flies),
+        );
       };
       zero = (tt, zero_append x.flown [] s.zero tt);
       knows = subst (λ (y : Checking). Knows maximum a b y (heard_more (records.Tti x.number ∷ (x.flown ++ [])) hs))
@@ -144,7 +146,7 @@ awake true e = absurd cc
 awake false e = refl
 
 abbrev pub Drained : ℕ → ℕ → List Record → Type 0
-Drained grant n told = Ttis (FliesIntact n grant) n told
+Drained grant n told = Ttis (FliesInDrain grant n) n told
 
 often_sound : (maximum : ℕ) (a b : Bool) (grant : ℕ) (c : Checking) (hs : Hearings) (ks : List Chunk)
     → Knows maximum a b c hs → b ≡ false → c.due ≡ Often grant → AreInside ks → (steps ks c).right ≡ true
@@ -171,8 +173,8 @@ often_sound maximum a b grant c hs (x ∷ ks) k lost due inside e =
           second = x.flown;
           told_are = ap (λ (n : ℕ). records.Tti n ∷ x.flown) s.number_is;
           is_first = refl;
-          is_second = subst (λ (n : ℕ). FliesIntact n grant x.flown) s.number_is
-              (subst (λ (z : Bool). Flies z x.number grant intact grant intact x.flown)
+          is_second = subst (λ (n : ℕ). FliesInDrain grant n x.flown) s.number_is
+              (subst (λ (z : Bool). FliesInAnyOrder z x.number grant intact grant intact x.flown)
               (awake s.flown_right.asleep s.flown_right.may) s.flown_right.flies);
         };
         is_second = subst (λ (n : ℕ). InTurn (Drained grant) n (length ks) (joined ks)) next rest.0;
@@ -225,7 +227,7 @@ in_turn_front grant (suc n) t told h =
     (h.is_first.told_are ∙ ap (λ (l : List Record). l ++ h.is_first.second) h.is_first.is_first))
 
 -- a TTI of a drain
-pub drained_right : (t grant : ℕ) (flown : List Record) → FliesIntact t grant flown
+pub drained_right : (t grant : ℕ) (flown : List Record) → FliesInDrain grant t flown
     → FlownRight t (granted_often grant) flown
 drained_right t grant flown h = record { asleep = false; may = refl; flies = h }
 
@@ -273,9 +275,9 @@ once_complete maximum a b up_grant up down_grant down c hs told k lost due h zer
     let flown = h.second in
     let is : told ≡ records.Tti t ∷ flown = h.told_are ∙ ap (λ (l : List Record). l ++ flown) h.is_first in
     let right : FlownRight t g flown = record {
-      asleep = h.is_second.asleep;
-      may = may_sleep h.is_second.asleep;
-      flies = h.is_second.flies;
+      asleep = h.is_second.0;
+      may = may_sleep h.is_second.0;
+      flies = h.is_second.1;
     } in
     let air = flown_air t g flown right in
     let zeros' : AllZero (records.Tti t ∷ flown) = subst (λ (l : List Record). AllZero l) is zeros in

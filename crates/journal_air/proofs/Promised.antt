@@ -7,15 +7,17 @@ use Rattle.std.specs.List.{filter}
 use Rattle.air_record.specs.declared.line.Outcome.{Outcome}
 use Rattle.air_record.specs.declared.record.Record.{Record}
 use Rattle.air_record.specs.declared.record.Record.TheVariants as records
+use Rattle.air_record.specs.Outcomes.{intact}
 use Rattle.air_text.specs.Groups.{Group}
-use Rattle.promises.specs.Air.{is_tti, ttis, numbered, MayFly, FliesIntact, InTurn, AreFlown}
+use Rattle.mac_pdu.specs.declared.item.Direction.TheVariants.{Down, Up}
+use Rattle.promises.specs.Air.{is_tti, ttis, numbered, Flies, MayFly, FliesIntact, InTurn}
 use Rattle.promises.specs.Carried.{AreCarried}
 use Rattle.promises.specs.Parts.{Part, Submits, Passes, Drains, Rests, part_of_line}
 use Rattle.promises.specs.Records.{is_of_air}
 use Rattle.journal_air.specs.declared.granted.Granted.{Granted}
 use Rattle.journal_air.specs.Checking.{granted_often}
-use Rattle.promises.specs.RightAir.{is_of_time, HasItsTtis, GroupIsRight, AirIsRight}
-use Rattle.journal_air.specs.Laws.{HasCount, FliesAsPromised}
+use Rattle.promises.specs.RightAir.{is_toward, FliesInAnyOrder, is_of_time, HasItsTtis, GroupIsRight, AirIsRight}
+use Rattle.journal_air.specs.Laws.{HasCount, put_in_order, AreFlownInAnyOrder, FliesAsPromised}
 use Rattle.journal_air.specs.Laws.{AllFly}
 use Rattle.journal_air.proofs.Tellings.{AllAir}
 use Rattle.journal_air.proofs.Ttis.{FlownRight, flown_air}
@@ -57,13 +59,25 @@ no_numbers (one ∷ l) air = rw (no_number one air.0) (no_numbers l air.1)
 
 -- ---- the TTIs of a line
 
+in_order : (asleep : Bool) (t up_grant : ℕ) (up : Outcome) (down_grant : ℕ) (down : Outcome) (told : List Record)
+    → FliesInAnyOrder asleep t up_grant up down_grant down told
+    → Flies asleep t up_grant up down_grant down (put_in_order told)
+in_order asleep t up_grant up down_grant down told h = record {
+  downward = filter (is_toward Down) told;
+  upward = filter (is_toward Up) told;
+  told_is = ap (λ (l : List Record). l ++ (filter (is_toward Down) told ++ filter (is_toward Up) told)) h.sleeps;
+  down_is = h.down_is;
+  up_is = h.up_is;
+}
+
 record Told (t : ℕ) (p : Part) (told : List Record) : Type 0 where
   count : ℕ
   count_is : HasCount p count
   numbers_are : filter is_tti told ≡ numbered t count
-  are_flown : AreFlown t p told
+  are_flown : AreFlownInAnyOrder t p told
 
-rests_told : (t : ℕ) (p : Part) (told : List Record) → told ≡ [] → HasCount p 0 → AreFlown t p [] → Told t p told
+rests_told : (t : ℕ) (p : Part) (told : List Record) → told ≡ [] → HasCount p 0 → AreFlownInAnyOrder t p []
+    → Told t p told
 rests_told t p told e count flown =
     subst (λ (l : List Record). Told t p l) (sym e)
     (record { count = 0; count_is = count; numbers_are = refl; are_flown = flown })
@@ -74,9 +88,9 @@ passes_told t up_grant up down_grant down told h =
     let g : Granted =
     record { up_grant = up_grant; up = up; down_grant = down_grant; down = down; may_sleep = true } in
     let right : FlownRight t g h.second = record {
-      asleep = h.is_second.asleep;
-      may = may_sleep h.is_second.asleep;
-      flies = h.is_second.flies;
+      asleep = h.is_second.0;
+      may = may_sleep h.is_second.0;
+      flies = h.is_second.1;
     } in
     let air = flown_air t g h.second right in
     let is : told ≡ records.Tti t ∷ h.second = h.told_are ∙ ap (λ (l : List Record). l ++ h.second) h.is_first in
@@ -84,18 +98,25 @@ passes_told t up_grant up down_grant down told h =
       count = 1;
       count_is = refl;
       numbers_are = ap (filter is_tti) is ∙ ap (λ (l : List Record). records.Tti t ∷ l) (no_numbers h.second air);
-      are_flown = subst (λ (l : List Record). MayFly t up_grant up down_grant down l)
-          (sym (ap (filter is_of_air) is ∙ all_air h.second air)) h.is_second;
+      are_flown = subst (λ (l : List Record). MayFly t up_grant up down_grant down (put_in_order l))
+          (sym (ap (filter is_of_air) is ∙ all_air h.second air))
+          (record {
+            asleep = h.is_second.0;
+            flies = in_order h.is_second.0 t up_grant up down_grant down h.second h.is_second.1;
+          });
     }
   where
     may_sleep : (asleep : Bool) → (not asleep || true) ≡ true
     may_sleep true = refl
     may_sleep false = refl
 
+abbrev DrainedInOrder : ℕ → ℕ → List Record → Type 0
+DrainedInOrder grant n told = FliesIntact n grant (put_in_order told)
+
 record DrainTold (t grant count : ℕ) (told : List Record) : Type 0 where
   numbers_are : filter is_tti told ≡ numbered t count
   length_is : length (filter is_tti told) ≡ count
-  are_flown : InTurn (λ n. FliesIntact n grant) t count (filter is_of_air told)
+  are_flown : InTurn (DrainedInOrder grant) t count (filter is_of_air told)
 
 drain_told : (grant n t : ℕ) (told : List Record) → InTurn (Drained grant) t n told → DrainTold t grant n told
 drain_told grant zero t told h = subst (λ (l : List Record). DrainTold t grant zero l) (sym h)
@@ -119,7 +140,7 @@ drain_told grant (suc n) t told h =
         second = filter is_of_air h.second;
         told_are = ap (filter is_of_air) is ∙ filter-append is_of_air flown h.second
             ∙ ap (λ (l : List Record). l ++ filter is_of_air h.second) (all_air flown air);
-        is_first = h.is_first.is_second;
+        is_first = in_order false t grant intact grant intact flown h.is_first.is_second;
         is_second = rest.are_flown;
       };
     }
@@ -133,20 +154,20 @@ line_told (Drains grant) t told h =
       count = h.0;
       count_is = tt;
       numbers_are = d.numbers_are;
-      are_flown = subst (λ (n : ℕ). InTurn (λ m. FliesIntact m grant) t n (filter is_of_air told)) (sym d.length_is)
+      are_flown = subst (λ (n : ℕ). InTurn (DrainedInOrder grant) t n (filter is_of_air told)) (sym d.length_is)
           d.are_flown;
     }
 line_told Rests t told h = rests_told t Rests told h refl refl
 
 -- what is flown hangs on the records of the air, and on how many numbers there are
 flown_same : (p : Part) (t : ℕ) (told events : List Record) → filter is_of_air told ≡ filter is_of_air events
-    → filter is_tti told ≡ filter is_tti events → AreFlown t p told → AreFlown t p events
+    → filter is_tti told ≡ filter is_tti events → AreFlownInAnyOrder t p told → AreFlownInAnyOrder t p events
 flown_same (Submits side lcid octets) t told events e f h = sym e ∙ h
 flown_same (Passes up_grant up down_grant down) t told events e f h =
-    subst (λ (l : List Record). MayFly t up_grant up down_grant down l) e h
+    subst (λ (l : List Record). MayFly t up_grant up down_grant down (put_in_order l)) e h
 flown_same (Drains grant) t told events e f h =
-    subst (λ (l : List Record). InTurn (λ n. FliesIntact n grant) t (length (filter is_tti events)) l) e
-    (subst (λ (l : List Record). InTurn (λ n. FliesIntact n grant) t (length l) (filter is_of_air told)) f h)
+    subst (λ (l : List Record). InTurn (DrainedInOrder grant) t (length (filter is_tti events)) l) e
+    (subst (λ (l : List Record). InTurn (DrainedInOrder grant) t (length l) (filter is_of_air told)) f h)
 flown_same Rests t told events e f h = sym e ∙ h
 
 group_flies : (g : Group) (past : List Group) → GroupIsRight g past → FliesAsPromised g past

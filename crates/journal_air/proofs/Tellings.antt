@@ -1,28 +1,32 @@
--- What is told of a TTI, gathered record by record, is right in its order exactly where the records
--- are those of what was gathered; and what these are to the past of each process.
-use Rattle.std.proofs.Common.{◌≡◌, ℕ, Bool, true, false, not, ◌&&◌, Option, Some, None}
+-- What is told of a TTI, gathered record by record, is in order exactly where its records, kind by
+-- kind, are those of what was gathered; and what these are to the past of each process.
+use Rattle.std.proofs.Common.{◌≡◌, ℕ, Bool, true, false, not, ◌&&◌, ◌==◌, ◌%◌, if◌then◌else◌, Option, Some, None}
 use Rattle.std.proofs.Common.{is_none, is_some}
 use Rattle.std.proofs.Common.{List, [], ◌∷◌, ◌++◌, refl, ap, sym, ◌∙◌, append_assoc, append-nil}
-use Rattle.std.proofs.lemmas.Bool.{and_parts}
-use Rattle.std.specs.List.{AllByRecursion}
+use Rattle.std.proofs.lemmas.Bool.{and_parts, and_from}
+use Rattle.std.proofs.lemmas.List.Elements.{filter-append}
+use Rattle.std.specs.List.{filter, list_all, AllByRecursion}
 use Rattle.air_record.specs.declared.record.Record.{Record}
 use Rattle.air_record.specs.declared.record.Record.TheVariants as records
 use Rattle.mac_pdu.specs.declared.item.Direction.{Direction}
 use Rattle.mac_pdu.specs.declared.item.Direction.TheVariants.{Down, Up}
 use Rattle.promises.specs.Air.{sleeping}
 use Rattle.promises.specs.Records.{is_of_air}
-use Rattle.promises.specs.Heard.{Heard, Flight, hears, heard, idle}
-use Rattle.journal_air.specs.Told.{BlockTold, AirTold, WayTold, TtiTold, no_way, blank_tti, is_blank, tells_sleep}
-use Rattle.journal_air.specs.Told.{tells_block}
-use Rattle.journal_air.specs.Told.{tells_air, block_records, air_records, way_records, records_of_tti}
-use Rattle.journal_air.proofs.Visits.{dozing, sending, landing, flight_of}
+use Rattle.promises.specs.RightAir.{is_toward}
+use Rattle.promises.specs.Sleeps.{is_sleep}
+use Rattle.promises.specs.Heard.{Heard, Flight, hears, heard, idle, sleeps, lands}
+use Rattle.promises.specs.Heard.{sent as sent_out}
+use Rattle.journal_air.specs.Told.{BlockTold, AirTold, WayTold, TtiTold, block_told, no_way, blank_tti, put_block}
+use Rattle.journal_air.specs.Told.{put_air, tells_sleep, tells_block, tells_air, block_records, air_records}
+use Rattle.journal_air.specs.Told.{way_records}
+use Rattle.journal_air.proofs.Visits.{flight_of}
 
 -- ---- record by record
 
 abbrev pub told_with : Record → TtiTold → TtiTold
 told_with records.Sleep x = tells_sleep x
 told_with (records.Block d process fresh version octets) x =
-    tells_block d (record { process = process; fresh = fresh; version = version; octets = octets }) x
+    tells_block d (block_told process fresh version octets) x
 told_with (records.Air d what heard) x = tells_air d (record { what = what; heard = heard }) x
 told_with one x = x
 
@@ -33,185 +37,254 @@ told_all (one ∷ told) x = told_all told (told_with one x)
 abbrev pub AllAir : List Record → Type 0
 AllAir told = AllByRecursion (λ one. is_of_air one ≡ true) told
 
+pub all_air : (l : List Record) → list_all is_of_air l ≡ true → AllAir l
+all_air [] e = tt
+all_air (one ∷ l) e =
+    let both = and_parts (is_of_air one) (list_all is_of_air l) e in
+    (both.0, all_air l both.1)
+
+pub air_all : (l : List Record) → AllAir l → list_all is_of_air l ≡ true
+air_all [] air = refl
+air_all (one ∷ l) air = and_from (is_of_air one) (list_all is_of_air l) air.0 (air_all l air.1)
+
 first_of : (a b : Bool) → (a && b) ≡ true → a ≡ true
 first_of a b e = (and_parts a b e).0
 
+second_of : (a b : Bool) → (a && b) ≡ true → b ≡ true
+second_of a b e = (and_parts a b e).1
+
 -- once out of its order, always so
 still : (one : Record) (x : TtiTold) → (told_with one x).in_order ≡ true → x.in_order ≡ true
-still records.Sleep x e = first_of _ _ (first_of _ _ (first_of _ _ e))
-still (records.Block Down process fresh version octets) x e = first_of _ _ (first_of _ _ e)
+still records.Sleep x e = first_of _ _ e
+still (records.Block Down process fresh version octets) x e = first_of _ _ e
 still (records.Block Up process fresh version octets) x e = first_of _ _ e
-still (records.Air Down what heard) x e = first_of _ _ (first_of _ _ e)
+still (records.Air Down what heard) x e = first_of _ _ e
 still (records.Air Up what heard) x e = first_of _ _ e
 still one x e = e
 
--- ---- what was gathered has the records
-
-no_options : (d : Direction) (b : Option BlockTold) (a : Option AirTold) → (is_none b && is_none a) ≡ true
-    → block_records d b ++ air_records d a ≡ []
-no_options d None None e = refl
-no_options d None (Some a) e = absurd cc
-no_options d (Some b) a e = absurd cc
-
-no_records : (d : Direction) (w : WayTold) → is_blank w ≡ true → way_records d w ≡ []
-no_records d w e = no_options d w.block w.air e
-
-sleep_records : (asleep : Bool) (down up : List Record) → not asleep ≡ true → down ≡ [] → up ≡ []
-    → sleeping true ++ (down ++ up) ≡ (sleeping asleep ++ (down ++ up)) ++ records.Sleep ∷ []
-sleep_records true down up n d u = absurd cc
-sleep_records false down up n d u = rw (d, u) refl
-
-down_block : (asleep : Bool) (one : Record) (b : Option BlockTold) (a : Option AirTold) (up : List Record)
-    → (is_none b && is_none a) ≡ true → up ≡ []
-    → sleeping asleep ++ ((one ∷ [] ++ air_records Down a) ++ up)
-    ≡ (sleeping asleep ++ ((block_records Down b ++ air_records Down a) ++ up)) ++ one ∷ []
-down_block true one None None up e u = rw u refl
-down_block false one None None up e u = rw u refl
-down_block asleep one None (Some a) up e u = absurd cc
-down_block asleep one (Some b) a up e u = absurd cc
-
-down_air : (asleep : Bool) (one : Record) (b : Option BlockTold) (a : Option AirTold) (up : List Record)
-    → not (is_some a) ≡ true → up ≡ []
-    → sleeping asleep ++ ((block_records Down b ++ one ∷ []) ++ up)
-    ≡ (sleeping asleep ++ ((block_records Down b ++ air_records Down a) ++ up)) ++ one ∷ []
-down_air true one None None up e u = rw u refl
-down_air true one (Some b) None up e u = rw u refl
-down_air false one None None up e u = rw u refl
-down_air false one (Some b) None up e u = rw u refl
-down_air asleep one b (Some a) up e u = absurd cc
-
-up_block : (s d : List Record) (one : Record) (b : Option BlockTold) (a : Option AirTold)
-    → (is_none b && is_none a) ≡ true
-    → s ++ (d ++ (one ∷ [] ++ air_records Up a)) ≡ (s ++ (d ++ (block_records Up b ++ air_records Up a))) ++ one ∷ []
-up_block s d one None None e = simp (append-nil, append_assoc)
-up_block s d one None (Some a) e = absurd cc
-up_block s d one (Some b) a e = absurd cc
-
-up_air : (s d : List Record) (one : Record) (b : List Record) (a : Option AirTold) → not (is_some a) ≡ true
-    → s ++ (d ++ (b ++ one ∷ [])) ≡ (s ++ (d ++ (b ++ air_records Up a))) ++ one ∷ []
-up_air s d one b None e = simp (append-nil, append_assoc)
-up_air s d one b (Some a) e = absurd cc
-
-one_more : (one : Record) (x : TtiTold) → is_of_air one ≡ true → (told_with one x).in_order ≡ true
-    → records_of_tti (told_with one x) ≡ records_of_tti x ++ one ∷ []
-one_more records.Sleep x air e =
-    let up = and_parts (x.in_order && not x.asleep && is_blank x.down) (is_blank x.up) e in
-    let down = and_parts (x.in_order && not x.asleep) (is_blank x.down) up.0 in
-    let awake = and_parts x.in_order (not x.asleep) down.0 in
-    sleep_records x.asleep (way_records Down x.down) (way_records Up x.up) awake.1 (no_records Down x.down down.1)
-    (no_records Up x.up up.1)
-one_more (records.Block Down process fresh version octets) x air e =
-    let up = and_parts (x.in_order && is_blank x.down) (is_blank x.up) e in
-    let down = and_parts x.in_order (is_blank x.down) up.0 in
-    down_block x.asleep (records.Block Down process fresh version octets) x.down.block x.down.air (way_records Up x.up)
-    down.1 (no_records Up x.up up.1)
-one_more (records.Block Up process fresh version octets) x air e =
-    up_block (sleeping x.asleep) (way_records Down x.down) (records.Block Up process fresh version octets) x.up.block
-    x.up.air (and_parts x.in_order (is_blank x.up) e).1
-one_more (records.Air Down what heard) x air e =
-    let up = and_parts (x.in_order && not (is_some x.down.air)) (is_blank x.up) e in
-    down_air x.asleep (records.Air Down what heard) x.down.block x.down.air (way_records Up x.up)
-    (and_parts x.in_order (not (is_some x.down.air)) up.0).1 (no_records Up x.up up.1)
-one_more (records.Air Up what heard) x air e =
-    up_air (sleeping x.asleep) (way_records Down x.down) (records.Air Up what heard) (block_records Up x.up.block)
-    x.up.air (and_parts x.in_order (not (is_some x.up.air)) e).1
-one_more one x air e = absurd cc
-
-pub told_order : (told : List Record) (x : TtiTold) → (told_all told x).in_order ≡ true → x.in_order ≡ true
+told_order : (told : List Record) (x : TtiTold) → (told_all told x).in_order ≡ true → x.in_order ≡ true
 told_order [] x e = e
 told_order (one ∷ told) x e = still one x (told_order told (told_with one x) e)
 
-told_from : (told : List Record) (x : TtiTold) → AllAir told → (told_all told x).in_order ≡ true
-    → records_of_tti (told_all told x) ≡ records_of_tti x ++ told
-told_from [] x air e = sym (append-nil (records_of_tti x))
-told_from (one ∷ told) x air e =
-    told_from told (told_with one x) air.1 e
-    ∙ ap (λ (l : List Record). l ++ told) (one_more one x air.0 (told_order told (told_with one x) e))
-    ∙ append_assoc (records_of_tti x) (one ∷ []) told
+-- ---- what was gathered has the records, kind by kind
 
--- all in its order: these are the records
-pub told_is : (told : List Record) → AllAir told → (told_all told blank_tti).in_order ≡ true
-    → told ≡ records_of_tti (told_all told blank_tti)
-told_is told air e = sym (told_from told blank_tti air e)
+abbrev pub way_in : Direction → TtiTold → WayTold
+way_in Down x = x.down
+way_in Up x = x.up
 
--- ---- and the records give back what has them
+sleep_last : (asleep : Bool) → not asleep ≡ true → sleeping true ≡ sleeping asleep ++ records.Sleep ∷ []
+sleep_last true e = absurd cc
+sleep_last false e = refl
 
-told_append : (a b : List Record) (x : TtiTold) → told_all (a ++ b) x ≡ told_all b (told_all a x)
-told_append [] b x = refl
-told_append (one ∷ a) b x = told_append a b (told_with one x)
+sleep_step : (one : Record) (x : TtiTold) → (told_with one x).in_order ≡ true
+    → sleeping (told_with one x).asleep ≡ sleeping x.asleep ++ filter is_sleep (one ∷ [])
+sleep_step records.Sleep x e = sleep_last x.asleep (second_of x.in_order (not x.asleep) e)
+sleep_step (records.Block Down process fresh version octets) x e = sym (append-nil (sleeping x.asleep))
+sleep_step (records.Block Up process fresh version octets) x e = sym (append-nil (sleeping x.asleep))
+sleep_step (records.Air Down what heard) x e = sym (append-nil (sleeping x.asleep))
+sleep_step (records.Air Up what heard) x e = sym (append-nil (sleeping x.asleep))
+sleep_step one x e = sym (append-nil (sleeping x.asleep))
 
-abbrev gathered : Bool → WayTold → WayTold → TtiTold
+block_first : (d : Direction) (one : Record) (b : Option BlockTold) (a : Option AirTold)
+    → (is_none b && is_none a) ≡ true
+    → one ∷ [] ++ air_records d a ≡ (block_records d b ++ air_records d a) ++ one ∷ []
+block_first d one None None e = refl
+block_first d one None (Some a) e = absurd cc
+block_first d one (Some b) a e = absurd cc
+
+air_last : (d : Direction) (one : Record) (b : List Record) (a : Option AirTold) → not (is_some a) ≡ true
+    → b ++ one ∷ [] ≡ (b ++ air_records d a) ++ one ∷ []
+air_last d one b None e = ap (λ (l : List Record). l ++ one ∷ []) (sym (append-nil b))
+air_last d one b (Some a) e = absurd cc
+
+way_step : (d : Direction) (one : Record) (x : TtiTold) → (told_with one x).in_order ≡ true
+    → way_records d (way_in d (told_with one x)) ≡ way_records d (way_in d x) ++ filter (is_toward d) (one ∷ [])
+way_step Down (records.Block Down process fresh version octets) x e =
+    block_first Down (records.Block Down process fresh version octets) x.down.block x.down.air
+    (second_of x.in_order _ e)
+way_step Down (records.Block Up process fresh version octets) x e = sym (append-nil (way_records Down x.down))
+way_step Down (records.Air Down what heard) x e =
+    air_last Down (records.Air Down what heard) (block_records Down x.down.block) x.down.air (second_of x.in_order _ e)
+way_step Down (records.Air Up what heard) x e = sym (append-nil (way_records Down x.down))
+way_step Down one x e = sym (append-nil (way_records Down x.down))
+way_step Up (records.Block Down process fresh version octets) x e = sym (append-nil (way_records Up x.up))
+way_step Up (records.Block Up process fresh version octets) x e =
+    block_first Up (records.Block Up process fresh version octets) x.up.block x.up.air (second_of x.in_order _ e)
+way_step Up (records.Air Down what heard) x e = sym (append-nil (way_records Up x.up))
+way_step Up (records.Air Up what heard) x e =
+    air_last Up (records.Air Up what heard) (block_records Up x.up.block) x.up.air (second_of x.in_order _ e)
+way_step Up one x e = sym (append-nil (way_records Up x.up))
+
+-- a record more of a kind
+more_of : (kind : Record → Bool) (before now : List Record) (one : Record) (told : List Record)
+    → now ≡ before ++ filter kind (one ∷ []) → now ++ filter kind told ≡ before ++ filter kind (one ∷ told)
+more_of kind before now one told e =
+    ap (λ (l : List Record). l ++ filter kind told) e
+    ∙ append_assoc before (filter kind (one ∷ [])) (filter kind told)
+    ∙ ap (λ (l : List Record). before ++ l) (sym (filter-append kind (one ∷ []) told))
+
+sleeps_from : (told : List Record) (x : TtiTold) → (told_all told x).in_order ≡ true
+    → sleeping (told_all told x).asleep ≡ sleeping x.asleep ++ filter is_sleep told
+sleeps_from [] x e = sym (append-nil (sleeping x.asleep))
+sleeps_from (one ∷ told) x e =
+    let y = told_with one x in
+    sleeps_from told y e
+    ∙ more_of is_sleep (sleeping x.asleep) (sleeping y.asleep) one told (sleep_step one x (told_order told y e))
+
+ways_from : (d : Direction) (told : List Record) (x : TtiTold) → (told_all told x).in_order ≡ true
+    → way_records d (way_in d (told_all told x)) ≡ way_records d (way_in d x) ++ filter (is_toward d) told
+ways_from d [] x e = sym (append-nil (way_records d (way_in d x)))
+ways_from d (one ∷ told) x e =
+    let y = told_with one x in
+    ways_from d told y e
+    ∙ more_of (is_toward d) (way_records d (way_in d x)) (way_records d (way_in d y)) one told
+    (way_step d one x (told_order told y e))
+
+-- told in order: these are the records of each kind
+pub record KindsAre (told : List Record) (asleep : Bool) (down up : WayTold) : Type 0 where
+  pub sleeps_is : filter is_sleep told ≡ sleeping asleep
+  pub down_is : filter (is_toward Down) told ≡ way_records Down down
+  pub up_is : filter (is_toward Up) told ≡ way_records Up up
+
+pub kinds_are : (told : List Record) → (told_all told blank_tti).in_order ≡ true
+    → KindsAre told (told_all told blank_tti).asleep (told_all told blank_tti).down (told_all told blank_tti).up
+kinds_are told e = record {
+  sleeps_is = sym (sleeps_from told blank_tti e);
+  down_is = sym (ways_from Down told blank_tti e);
+  up_is = sym (ways_from Up told blank_tti e);
+}
+
+-- ---- and the records of each kind give back what has them
+
+awake_before : (now before : Bool) (more : List Record) → sleeping now ≡ sleeping before ++ records.Sleep ∷ more
+    → not before ≡ true
+awake_before now false more e = refl
+awake_before true true more e = absurd cc
+awake_before false true more e = absurd cc
+
+-- at most a block and what came of it, in this order
+abbrev is_landing : List Record → Bool
+is_landing [] = true
+is_landing (records.Air d what heard ∷ []) = true
+is_landing l = false
+
+abbrev is_way : List Record → Bool
+is_way (records.Block d process fresh version octets ∷ l) = is_landing l
+is_way l = is_landing l
+
+way_is : (d : Direction) (b : Option BlockTold) (a : Option AirTold)
+    → is_way (block_records d b ++ air_records d a) ≡ true
+way_is d None None = refl
+way_is d None (Some a) = refl
+way_is d (Some b) None = refl
+way_is d (Some b) (Some a) = refl
+
+-- so nothing stands before a block, and nothing that landed before what comes
+blank_before : (d : Direction) (p : ℕ) (f : Bool) (v : ℕ) (o : List ℕ) (b : Option BlockTold) (a : Option AirTold)
+    (more : List Record)
+    → is_way ((block_records d b ++ air_records d a) ++ records.Block d p f v o ∷ more) ≡ true
+    → (is_none b && is_none a) ≡ true
+blank_before d p f v o None None more e = refl
+blank_before d p f v o None (Some a) more e = absurd cc
+blank_before d p f v o (Some b) None more e = absurd cc
+blank_before d p f v o (Some b) (Some a) more e = absurd cc
+
+not_landed : (d : Direction) (one : Record) (b : Option BlockTold) (a : Option AirTold) (more : List Record)
+    → is_way ((block_records d b ++ air_records d a) ++ one ∷ more) ≡ true → not (is_some a) ≡ true
+not_landed d one b None more e = refl
+not_landed d one None (Some a) more e = absurd cc
+not_landed d one (Some b) (Some a) more e = absurd cc
+
+-- what is told from here on brings it to this
+record Brings (told : List Record) (x : TtiTold) (asleep : Bool) (down up : WayTold) : Type 0 where
+  sleeps_is : sleeping asleep ≡ sleeping x.asleep ++ filter is_sleep told
+  down_is : way_records Down down ≡ way_records Down x.down ++ filter (is_toward Down) told
+  up_is : way_records Up up ≡ way_records Up x.up ++ filter (is_toward Up) told
+
+still_way : (d : Direction) (w : WayTold) (l : List Record) → way_records d w ≡ l → is_way l ≡ true
+still_way d w l e = ap is_way (sym e) ∙ way_is d w.block w.air
+
+next_order : (one : Record) (told : List Record) (x : TtiTold) (asleep : Bool) (down up : WayTold)
+    → x.in_order ≡ true → Brings (one ∷ told) x asleep down up → (told_with one x).in_order ≡ true
+next_order records.Sleep told x asleep down up i h =
+    and_from x.in_order _ i (awake_before asleep x.asleep (filter is_sleep told) h.sleeps_is)
+next_order (records.Block Down p f v o) told x asleep down up i h =
+    and_from x.in_order _ i
+    (blank_before Down p f v o x.down.block x.down.air (filter (is_toward Down) told) (still_way Down down _ h.down_is))
+next_order (records.Block Up p f v o) told x asleep down up i h =
+    and_from x.in_order _ i
+    (blank_before Up p f v o x.up.block x.up.air (filter (is_toward Up) told) (still_way Up up _ h.up_is))
+next_order (records.Air Down what heard) told x asleep down up i h =
+    and_from x.in_order _ i
+    (not_landed Down (records.Air Down what heard) x.down.block x.down.air (filter (is_toward Down) told)
+    (still_way Down down _ h.down_is))
+next_order (records.Air Up what heard) told x asleep down up i h =
+    and_from x.in_order _ i
+    (not_landed Up (records.Air Up what heard) x.up.block x.up.air (filter (is_toward Up) told)
+    (still_way Up up _ h.up_is))
+next_order one told x asleep down up i h = i
+
+brought : (told : List Record) (x : TtiTold) (asleep : Bool) (down up : WayTold) → x.in_order ≡ true
+    → Brings told x asleep down up → (told_all told x).in_order ≡ true
+brought [] x asleep down up i h = i
+brought (one ∷ told) x asleep down up i h =
+    let y = told_with one x in
+    let next = next_order one told x asleep down up i h in
+    brought told y asleep down up next (record {
+      sleeps_is = h.sleeps_is
+          ∙ sym (more_of is_sleep (sleeping x.asleep) (sleeping y.asleep) one told (sleep_step one x next));
+      down_is = h.down_is
+          ∙ sym (more_of (is_toward Down) (way_records Down x.down) (way_records Down y.down) one told
+          (way_step Down one x next));
+      up_is = h.up_is
+          ∙ sym (more_of (is_toward Up) (way_records Up x.up) (way_records Up y.up) one told (way_step Up one x next));
+    })
+
+same_sleep : (a b : Bool) → sleeping a ≡ sleeping b → a ≡ b
+same_sleep true true e = refl
+same_sleep true false e = absurd cc
+same_sleep false true e = absurd cc
+same_sleep false false e = refl
+
+abbrev put_back : Record → WayTold → WayTold
+put_back (records.Block d process fresh version octets) w = put_block (block_told process fresh version octets) w
+put_back (records.Air d what heard) w = put_air (record { what = what; heard = heard }) w
+put_back one w = w
+
+abbrev way_of : List Record → WayTold
+way_of [] = no_way
+way_of (one ∷ l) = put_back one (way_of l)
+
+way_of_is : (d : Direction) (b : Option BlockTold) (a : Option AirTold)
+    → way_of (block_records d b ++ air_records d a) ≡ record { block = b; air = a }
+way_of_is d None None = refl
+way_of_is d None (Some a) = refl
+way_of_is d (Some b) None = refl
+way_of_is d (Some b) (Some a) = refl
+
+same_way : (d : Direction) (w v : WayTold) → way_records d w ≡ way_records d v → w ≡ v
+same_way d w v e = sym (way_of_is d w.block w.air) ∙ ap way_of e ∙ way_of_is d v.block v.air
+
+abbrev pub gathered : Bool → WayTold → WayTold → TtiTold
 gathered asleep down up = record { in_order = true; asleep = asleep; down = down; up = up }
 
-abbrev way : Option BlockTold → Option AirTold → WayTold
-way b a = record { block = b; air = a }
+gathered_is : (x : TtiTold) (asleep : Bool) (down up : WayTold) → x.in_order ≡ true → x.asleep ≡ asleep
+    → x.down ≡ down → x.up ≡ up → x ≡ gathered asleep down up
+gathered_is x asleep down up i s d u =
+    let with_order : Bool → TtiTold = λ y. record { in_order = y; asleep = x.asleep; down = x.down; up = x.up } in
+    ap with_order i ∙ ap (λ (y : Bool). gathered y x.down x.up) s ∙ ap (λ (y : WayTold). gathered asleep y x.up) d
+    ∙ ap (gathered asleep down) u
 
-gives_sleep : (asleep : Bool) → told_all (sleeping asleep) blank_tti ≡ gathered asleep no_way no_way
-gives_sleep true = refl
-gives_sleep false = refl
-
-gives_down_block : (asleep : Bool) (b : Option BlockTold)
-    → told_all (block_records Down b) (gathered asleep no_way no_way) ≡ gathered asleep (way b None) no_way
-gives_down_block asleep None = refl
-gives_down_block asleep (Some b) = refl
-
-gives_down_air : (asleep : Bool) (b : Option BlockTold) (a : Option AirTold)
-    → told_all (air_records Down a) (gathered asleep (way b None) no_way) ≡ gathered asleep (way b a) no_way
-gives_down_air asleep b None = refl
-gives_down_air asleep b (Some a) = refl
-
-gives_up_block : (asleep : Bool) (down : WayTold) (b : Option BlockTold)
-    → told_all (block_records Up b) (gathered asleep down no_way) ≡ gathered asleep down (way b None)
-gives_up_block asleep down None = refl
-gives_up_block asleep down (Some b) = refl
-
-gives_up_air : (asleep : Bool) (down : WayTold) (b : Option BlockTold) (a : Option AirTold)
-    → told_all (air_records Up a) (gathered asleep down (way b None)) ≡ gathered asleep down (way b a)
-gives_up_air asleep down b None = refl
-gives_up_air asleep down b (Some a) = refl
-
-pub gives_back : (asleep : Bool) (down up : WayTold)
-    → told_all (sleeping asleep ++ (way_records Down down ++ way_records Up up)) blank_tti ≡ gathered asleep down up
-gives_back asleep down up =
-    let d = way_records Down down in
-    let u = way_records Up up in
-    told_append (sleeping asleep) (d ++ u) blank_tti
-    ∙ ap (told_all (d ++ u)) (gives_sleep asleep)
-    ∙ told_append d u (gathered asleep no_way no_way)
-    ∙ ap (told_all u)
-    (told_append (block_records Down down.block) (air_records Down down.air) (gathered asleep no_way no_way)
-    ∙ ap (told_all (air_records Down down.air)) (gives_down_block asleep down.block)
-    ∙ gives_down_air asleep down.block down.air)
-    ∙ told_append (block_records Up up.block) (air_records Up up.air) (gathered asleep down no_way)
-    ∙ ap (told_all (air_records Up up.air)) (gives_up_block asleep down up.block)
-    ∙ gives_up_air asleep down up.block up.air
-
--- ---- they tell of the air alone
-
-air_append : (a b : List Record) → AllAir a → AllAir b → AllAir (a ++ b)
-air_append [] b p q = q
-air_append (one ∷ a) b p q = (p.0, air_append a b p.1 q)
-
-block_air : (d : Direction) (b : Option BlockTold) → AllAir (block_records d b)
-block_air d None = tt
-block_air d (Some b) = (refl, tt)
-
-air_air : (d : Direction) (a : Option AirTold) → AllAir (air_records d a)
-air_air d None = tt
-air_air d (Some a) = (refl, tt)
-
-pub way_air : (d : Direction) (w : WayTold) → AllAir (way_records d w)
-way_air d w = air_append (block_records d w.block) (air_records d w.air) (block_air d w.block) (air_air d w.air)
-
-pub sleeping_air : (asleep : Bool) → AllAir (sleeping asleep)
-sleeping_air true = (refl, tt)
-sleeping_air false = tt
-
-pub tti_air : (asleep : Bool) (down up : WayTold)
-    → AllAir (sleeping asleep ++ (way_records Down down ++ way_records Up up))
-tti_air asleep down up =
-    air_append (sleeping asleep) (way_records Down down ++ way_records Up up) (sleeping_air asleep)
-    (air_append (way_records Down down) (way_records Up up) (way_air Down down) (way_air Up up))
+pub gives_back : (told : List Record) (asleep : Bool) (down up : WayTold) → KindsAre told asleep down up
+    → told_all told blank_tti ≡ gathered asleep down up
+gives_back told asleep down up k =
+    let x = told_all told blank_tti in
+    let e = brought told blank_tti asleep down up refl
+    (record { sleeps_is = sym k.sleeps_is; down_is = sym k.down_is; up_is = sym k.up_is }) in
+    gathered_is x asleep down up e
+    (same_sleep x.asleep asleep (sleeps_from told blank_tti e ∙ k.sleeps_is))
+    (same_way Down x.down down (ways_from Down told blank_tti e ∙ k.down_is))
+    (same_way Up x.up up (ways_from Up told blank_tti e ∙ k.up_is))
 
 -- ---- what the records are to a process
 
@@ -231,66 +304,99 @@ elsewhere d p (records.Block way' process fresh version octets) lost l e = refl
 elsewhere d p (records.Air way' what good) lost l e = refl
 elsewhere d p one lost l e = absurd cc
 
-pub all_elsewhere : (d : Direction) (p : ℕ) (told : List Record) (lost : Bool) (l : List Flight) → AllAir told
+all_elsewhere : (d : Direction) (p : ℕ) (told : List Record) (lost : Bool) (l : List Flight) → AllAir told
     → heard d p told (hearing lost false l) ≡ hearing lost false l
 all_elsewhere d p [] lost l air = refl
 all_elsewhere d p (one ∷ told) lost l air =
     ap (heard d p told) (elsewhere d p one lost l air.0) ∙ all_elsewhere d p told lost l air.1
 
--- one that is
-sleeps_here : (d : Direction) (p : ℕ) (asleep lost : Bool) (l : List Flight)
-    → heard d p (sleeping asleep) (hearing lost true (idle lost ∷ l))
-    ≡ hearing lost true (dozing asleep (idle lost) ∷ l)
-sleeps_here d p true lost l = refl
-sleeps_here d p false lost l = refl
+-- one that is: its visit, of what was gathered
+abbrev pub flight_in : Direction → Bool → TtiTold → Flight
+flight_in d lost x = flight_of lost x.asleep (way_in d x).block (way_in d x).air
 
-own_way : (d : Direction) (p : ℕ) (b : Option BlockTold) (a : Option AirTold) (lost : Bool) (f : Flight)
-    (l : List Flight)
-    → heard d p (block_records d b ++ air_records d a) (hearing lost true (f ∷ l))
-    ≡ hearing lost true (landing a (sending b f) ∷ l)
-own_way Down p None None lost f l = refl
-own_way Down p None (Some a) lost f l = refl
-own_way Down p (Some b) None lost f l = refl
-own_way Down p (Some b) (Some a) lost f l = refl
-own_way Up p None None lost f l = refl
-own_way Up p None (Some a) lost f l = refl
-own_way Up p (Some b) None lost f l = refl
-own_way Up p (Some b) (Some a) lost f l = refl
+sent_sleeps : (fresh : Bool) (version : ℕ) (octets : List ℕ) (f : Flight)
+    → sleeps (sent_out fresh version octets f) ≡ sent_out fresh version octets (sleeps f)
+sent_sleeps true version octets f = refl
+sent_sleeps false version octets f = refl
 
-down_of_up : (p : ℕ) (b : Option BlockTold) (a : Option AirTold) (lost : Bool) (l : List Flight)
-    → heard Down p (block_records Up b ++ air_records Up a) (hearing lost true l) ≡ hearing lost true l
-down_of_up p None None lost l = refl
-down_of_up p None (Some a) lost l = refl
-down_of_up p (Some b) None lost l = refl
-down_of_up p (Some b) (Some a) lost l = refl
+dozes : (lost asleep : Bool) (b : Option BlockTold) (a : Option AirTold) → not asleep ≡ true
+    → sleeps (flight_of lost asleep b a) ≡ flight_of lost true b a
+dozes lost true b a e = absurd cc
+dozes lost false None None e = refl
+dozes lost false None (Some a) e = refl
+dozes lost false (Some b) None e = sent_sleeps b.fresh b.version b.octets (idle lost)
+dozes lost false (Some b) (Some a) e =
+    ap (lands a.what a.heard) (sent_sleeps b.fresh b.version b.octets (idle lost))
 
-up_of_down : (p : ℕ) (b : Option BlockTold) (a : Option AirTold) (lost : Bool) (l : List Flight)
-    → heard Up p (block_records Down b ++ air_records Down a) (hearing lost true l) ≡ hearing lost true l
-up_of_down p None None lost l = refl
-up_of_down p None (Some a) lost l = refl
-up_of_down p (Some b) None lost l = refl
-up_of_down p (Some b) (Some a) lost l = refl
+goes_out : (lost asleep : Bool) (block : BlockTold) (b : Option BlockTold) (a : Option AirTold)
+    → (is_none b && is_none a) ≡ true
+    → sent_out block.fresh block.version block.octets (flight_of lost asleep b a)
+    ≡ flight_of lost asleep (Some block) a
+goes_out lost asleep block None None e = refl
+goes_out lost asleep block None (Some a) e = absurd cc
+goes_out lost asleep block (Some b) a e = absurd cc
 
-pub down_here : (p : ℕ) (asleep lost : Bool) (down up : WayTold) (l : List Flight)
-    → heard Down p (sleeping asleep ++ (way_records Down down ++ way_records Up up)) (hearing lost true (idle lost ∷ l))
-    ≡ hearing lost true (flight_of lost asleep down.block down.air ∷ l)
-down_here p asleep lost down up l =
-    let d = way_records Down down in
-    let u = way_records Up up in
-    heard_append Down p (sleeping asleep) (d ++ u) (hearing lost true (idle lost ∷ l))
-    ∙ ap (heard Down p (d ++ u)) (sleeps_here Down p asleep lost l)
-    ∙ heard_append Down p d u (hearing lost true (dozing asleep (idle lost) ∷ l))
-    ∙ ap (heard Down p u) (own_way Down p down.block down.air lost (dozing asleep (idle lost)) l)
-    ∙ down_of_up p up.block up.air lost (flight_of lost asleep down.block down.air ∷ l)
+comes : (lost asleep : Bool) (air : AirTold) (b : Option BlockTold) (a : Option AirTold) → not (is_some a) ≡ true
+    → lands air.what air.heard (flight_of lost asleep b a) ≡ flight_of lost asleep b (Some air)
+comes lost asleep air b None e = refl
+comes lost asleep air b (Some a) e = absurd cc
 
-pub up_here : (p : ℕ) (asleep lost : Bool) (down up : WayTold) (l : List Flight)
-    → heard Up p (sleeping asleep ++ (way_records Down down ++ way_records Up up)) (hearing lost true (idle lost ∷ l))
-    ≡ hearing lost true (flight_of lost asleep up.block up.air ∷ l)
-up_here p asleep lost down up l =
-    let d = way_records Down down in
-    let u = way_records Up up in
-    heard_append Up p (sleeping asleep) (d ++ u) (hearing lost true (idle lost ∷ l))
-    ∙ ap (heard Up p (d ++ u)) (sleeps_here Up p asleep lost l)
-    ∙ heard_append Up p d u (hearing lost true (dozing asleep (idle lost) ∷ l))
-    ∙ ap (heard Up p u) (up_of_down p down.block down.air lost (dozing asleep (idle lost) ∷ l))
-    ∙ own_way Up p up.block up.air lost (dozing asleep (idle lost)) l
+hears_step : (d : Direction) (p : ℕ) (one : Record) (lost : Bool) (x : TtiTold) (l : List Flight)
+    → is_of_air one ≡ true → (told_with one x).in_order ≡ true
+    → hears d p one (hearing lost true (flight_in d lost x ∷ l))
+    ≡ hearing lost true (flight_in d lost (told_with one x) ∷ l)
+hears_step Down p records.Sleep lost x l air e =
+    ap (λ (f : Flight). hearing lost true (f ∷ l))
+    (dozes lost x.asleep x.down.block x.down.air (second_of x.in_order (not x.asleep) e))
+hears_step Down p (records.Block Down process fresh version octets) lost x l air e =
+    ap (λ (f : Flight). hearing lost true (f ∷ l))
+    (goes_out lost x.asleep (record { process = process; fresh = fresh; version = version; octets = octets })
+    x.down.block x.down.air (second_of x.in_order _ e))
+hears_step Down p (records.Block Up process fresh version octets) lost x l air e = refl
+hears_step Down p (records.Air Down what good) lost x l air e =
+    ap (λ (f : Flight). hearing lost true (f ∷ l))
+    (comes lost x.asleep (record { what = what; heard = good }) x.down.block x.down.air (second_of x.in_order _ e))
+hears_step Down p (records.Air Up what good) lost x l air e = refl
+hears_step Up p records.Sleep lost x l air e =
+    ap (λ (f : Flight). hearing lost true (f ∷ l))
+    (dozes lost x.asleep x.up.block x.up.air (second_of x.in_order (not x.asleep) e))
+hears_step Up p (records.Block Down process fresh version octets) lost x l air e = refl
+hears_step Up p (records.Block Up process fresh version octets) lost x l air e =
+    ap (λ (f : Flight). hearing lost true (f ∷ l))
+    (goes_out lost x.asleep (record { process = process; fresh = fresh; version = version; octets = octets })
+    x.up.block x.up.air (second_of x.in_order _ e))
+hears_step Up p (records.Air Down what good) lost x l air e = refl
+hears_step Up p (records.Air Up what good) lost x l air e =
+    ap (λ (f : Flight). hearing lost true (f ∷ l))
+    (comes lost x.asleep (record { what = what; heard = good }) x.up.block x.up.air (second_of x.in_order _ e))
+hears_step d p one lost x l air e = absurd cc
+
+here : (d : Direction) (p : ℕ) (told : List Record) (lost : Bool) (x : TtiTold) (l : List Flight) → AllAir told
+    → (told_all told x).in_order ≡ true
+    → heard d p told (hearing lost true (flight_in d lost x ∷ l))
+    ≡ hearing lost true (flight_in d lost (told_all told x) ∷ l)
+here d p [] lost x l air e = refl
+here d p (one ∷ told) lost x l air e =
+    let y = told_with one x in
+    ap (heard d p told) (hears_step d p one lost x l air.0 (told_order told y e)) ∙ here d p told lost y l air.1 e
+
+blank_flight : (d : Direction) (lost : Bool) → idle lost ≡ flight_in d lost blank_tti
+blank_flight Down lost = refl
+blank_flight Up lost = refl
+
+pub tti_heard : (d : Direction) (p t : ℕ) (told : List Record) (h : Heard) → AllAir told
+    → (told_all told blank_tti).in_order ≡ true
+    → heard d p (records.Tti t ∷ told) h
+    ≡ (if p == t % 8 then hearing h.lost true (flight_in d h.lost (told_all told blank_tti) ∷ h.flights)
+    else hearing h.lost false h.flights)
+tti_heard d p t told h air e = by_test (p == t % 8)
+  where
+    by_test : (b : Bool)
+        → heard d p told
+        (if b then hearing h.lost true (idle h.lost ∷ h.flights) else hearing h.lost false h.flights)
+        ≡ (if b then hearing h.lost true (flight_in d h.lost (told_all told blank_tti) ∷ h.flights)
+        else hearing h.lost false h.flights)
+    by_test true =
+        ap (λ (f : Flight). heard d p told (hearing h.lost true (f ∷ h.flights))) (blank_flight d h.lost)
+        ∙ here d p told h.lost blank_tti h.flights air e
+    by_test false = all_elsewhere d p told h.lost h.flights air

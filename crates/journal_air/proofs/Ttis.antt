@@ -2,6 +2,7 @@
 use Rattle.std.proofs.Common.{◌≡◌, ◌<◌, ◌≤◌, ℕ, ◌+◌, ◌%◌, ◌==◌, Bool, true, false, not, ◌&&◌, ◌||◌, if◌then◌else◌}
 use Rattle.std.proofs.Common.{Option, Some, None, List, [], ◌∷◌, ◌++◌, refl, ap, sym, subst, ◌∙◌, arith}
 use Rattle.std.proofs.lemmas.Bool.{and_parts, and_from, eqb-true, eq-eqb}
+use Rattle.std.specs.List.{filter}
 use Rattle.air_record.specs.declared.line.Outcome.{Outcome}
 use Rattle.air_record.specs.declared.record.Arrived.{Arrived}
 use Rattle.air_record.specs.declared.record.Arrived.TheVariants as arriveds
@@ -17,26 +18,26 @@ use Rattle.harq.specs.SendHistory.{IsRight as AreResent}
 use Rattle.harq.specs.Receiving.{Receiving}
 use Rattle.harq.specs.ReceiveHistory.{Told, AreAnsweredRight}
 use Rattle.harq.specs.ReceiveHistory.{Heard as Seen}
-use Rattle.promises.specs.Air.{sleeping, Flies}
 use Rattle.promises.specs.Awards.{grants, last_seen, AreVisits}
 use Rattle.promises.specs.Carried.{AreBuilt, seen, seen_as}
-use Rattle.promises.specs.Heard.{Heard, Flight, idle, heard, is_miss, deeds_of}
+use Rattle.promises.specs.Flights.{IsDown, IsUp}
+use Rattle.promises.specs.Heard.{Heard, Flight, heard, is_miss, deeds_of}
+use Rattle.promises.specs.RightAir.{is_toward, FliesInAnyOrder, BeginsAtZero}
 use Rattle.journal_air.specs.declared.granted.Granted.{Granted}
 use Rattle.journal_air.specs.declared.granted.Due.{Due}
-use Rattle.journal_air.specs.Told.{BlockTold, AirTold, WayTold, TtiTold, blank_tti, block_records, air_records}
-use Rattle.journal_air.specs.Told.{way_records, records_of_tti}
+use Rattle.journal_air.specs.Told.{BlockTold, AirTold, TtiTold, blank_tti, block_records, air_records}
 use Rattle.journal_air.specs.Ends.{BothEnds, after_down, is_down_right, after_up, is_up_right, order_seen}
 use Rattle.journal_air.specs.Checking.{Checking, after_tti, with_tti, after_records}
 use Rattle.journal_air.specs.Checking.{is_tti_right}
-use Rattle.promises.specs.RightAir.{BeginsAtZero}
 use Rattle.journal_air.proofs.Senders.{Sends, right_is}
 use Rattle.journal_air.proofs.Receivers.{heard_right, hears_same, Asks}
 use Rattle.journal_air.proofs.Visits.{flight_of, with_flight, zero_version}
-use Rattle.journal_air.proofs.Downlink.{DownKnows, down_is, down_told, down_back, down_goes_on, down_judged}
+use Rattle.journal_air.proofs.Downlink.{DownKnows, DownTold, down_is, down_told, down_back, down_goes_on, down_judged}
 use Rattle.journal_air.proofs.Downlink.{sent_down_parts}
-use Rattle.journal_air.proofs.Uplink.{UpKnows, up_is_right, up_told, up_back, up_goes_on, up_judged, sent_up_parts}
-use Rattle.journal_air.proofs.Tellings.{told_all, AllAir, told_is, gives_back, tti_air, hearing, all_elsewhere}
-use Rattle.journal_air.proofs.Tellings.{down_here, up_here}
+use Rattle.journal_air.proofs.Uplink.{UpKnows, UpTold, up_is_right, up_told, up_back, up_goes_on, up_judged}
+use Rattle.journal_air.proofs.Uplink.{sent_up_parts}
+use Rattle.journal_air.proofs.Tellings.{told_all, AllAir, all_air, air_all, kinds_are, gathered, gives_back}
+use Rattle.journal_air.proofs.Tellings.{hearing, flight_in, tti_heard}
 use Rattle.journal_air.proofs.Steps.{AllZero, AllInside, closed_still, after_air, air_inside}
 
 -- ---- the first version
@@ -84,9 +85,25 @@ way_zero d (Some c) air z b e fresh =
     subst (λ (x : BlockTold). x.fresh ≡ true → x.version ≡ 0) at
     (λ f. zero_is d c.process c.fresh c.version c.octets z.0 f) fresh
 
-sleeping_zero : (asleep : Bool) → AllZero (sleeping asleep)
-sleeping_zero true = (tt, tt)
-sleeping_zero false = tt
+zero_of_way : (d : Direction) (l : List Record) → AllZero l → AllZero (filter (is_toward d) l)
+zero_of_way d [] z = tt
+zero_of_way Down (records.Block Down process fresh version octets ∷ l) z = (z.0, zero_of_way Down l z.1)
+zero_of_way Down (records.Block Up process fresh version octets ∷ l) z = zero_of_way Down l z.1
+zero_of_way Down (records.Air Down what good ∷ l) z = (z.0, zero_of_way Down l z.1)
+zero_of_way Down (records.Air Up what good ∷ l) z = zero_of_way Down l z.1
+zero_of_way Up (records.Block Down process fresh version octets ∷ l) z = zero_of_way Up l z.1
+zero_of_way Up (records.Block Up process fresh version octets ∷ l) z = (z.0, zero_of_way Up l z.1)
+zero_of_way Up (records.Air Down what good ∷ l) z = zero_of_way Up l z.1
+zero_of_way Up (records.Air Up what good ∷ l) z = (z.0, zero_of_way Up l z.1)
+zero_of_way d (one ∷ l) z = zero_of_way d l z.1
+
+zero_of_ways : (l : List Record) → AllZero (filter (is_toward Down) l) → AllZero (filter (is_toward Up) l) → AllZero l
+zero_of_ways [] d u = tt
+zero_of_ways (records.Block Down process fresh version octets ∷ l) d u = (d.0, zero_of_ways l d.1 u)
+zero_of_ways (records.Block Up process fresh version octets ∷ l) d u = (u.0, zero_of_ways l d u.1)
+zero_of_ways (records.Air Down what good ∷ l) d u = (tt, zero_of_ways l d.1 u)
+zero_of_ways (records.Air Up what good ∷ l) d u = (tt, zero_of_ways l d u.1)
+zero_of_ways (one ∷ l) d u = (tt, zero_of_ways l d u)
 
 down_zero : (t grant : ℕ) (o : Outcome) (block : Option BlockTold) (air : Option AirTold) (e : BothEnds)
     → is_down_right t grant o block air e ≡ true → ZeroBlock block
@@ -161,63 +178,35 @@ heard_more told hs d p = heard d p told (hs d p)
 abbrev pub past_of : Hearings → Direction → ℕ → List Flight
 past_of hs d p = (hs d p).flights
 
-down_flights : (t p : ℕ) (asleep lost : Bool) (down up : WayTold) (h : Heard) → h.lost ≡ lost
-    → (heard Down p (records.Tti t ∷ (sleeping asleep ++ (way_records Down down ++ way_records Up up))) h).flights
-    ≡ (if p == t % 8 then flight_of lost asleep down.block down.air ∷ h.flights else h.flights)
-down_flights t p asleep lost down up h e =
-    by_test (p == t % 8)
-    ∙ ap (λ (x : Bool). if p == t % 8 then flight_of x asleep down.block down.air ∷ h.flights else h.flights) e
+tti_flights : (d : Direction) (t p : ℕ) (told : List Record) (x : TtiTold) (lost : Bool) (h : Heard) → AllAir told
+    → told_all told blank_tti ≡ x → x.in_order ≡ true → h.lost ≡ lost
+    → (heard d p (records.Tti t ∷ told) h).flights
+    ≡ (if p == t % 8 then flight_in d lost x ∷ h.flights else h.flights)
+tti_flights d t p told x lost h air is e l =
+    let e' : (told_all told blank_tti).in_order ≡ true = ap (λ (y : TtiTold). y.in_order) is ∙ e in
+    ap (λ (y : Heard). y.flights) (tti_heard d p t told h air e')
+    ∙ by_test (p == t % 8)
+    ∙ ap (λ (y : TtiTold). if p == t % 8 then flight_in d h.lost y ∷ h.flights else h.flights) is
+    ∙ ap (λ (y : Bool). if p == t % 8 then flight_in d y x ∷ h.flights else h.flights) l
   where
     by_test : (b : Bool)
-        → (heard Down p (sleeping asleep ++ (way_records Down down ++ way_records Up up))
-        (if b then hearing h.lost true (idle h.lost ∷ h.flights) else hearing h.lost false h.flights)).flights
-        ≡ (if b then flight_of h.lost asleep down.block down.air ∷ h.flights else h.flights)
-    by_test true = ap (λ (x : Heard). x.flights) (down_here p asleep h.lost down up h.flights)
-    by_test false = ap (λ (x : Heard). x.flights)
-        (all_elsewhere Down p (sleeping asleep ++ (way_records Down down ++ way_records Up up)) h.lost h.flights
-        (tti_air asleep down up))
+        → (if b then hearing h.lost true (flight_in d h.lost (told_all told blank_tti) ∷ h.flights)
+        else hearing h.lost false h.flights).flights
+        ≡ (if b then flight_in d h.lost (told_all told blank_tti) ∷ h.flights else h.flights)
+    by_test true = refl
+    by_test false = refl
 
-up_flights : (t p : ℕ) (asleep lost : Bool) (down up : WayTold) (h : Heard) → h.lost ≡ lost
-    → (heard Up p (records.Tti t ∷ (sleeping asleep ++ (way_records Down down ++ way_records Up up))) h).flights
-    ≡ (if p == t % 8 then flight_of lost asleep up.block up.air ∷ h.flights else h.flights)
-up_flights t p asleep lost down up h e =
-    by_test (p == t % 8)
-    ∙ ap (λ (x : Bool). if p == t % 8 then flight_of x asleep up.block up.air ∷ h.flights else h.flights) e
+tti_loses : (d : Direction) (t p : ℕ) (told : List Record) (h : Heard) → AllAir told
+    → (told_all told blank_tti).in_order ≡ true → (heard d p (records.Tti t ∷ told) h).lost ≡ h.lost
+tti_loses d t p told h air e =
+    ap (λ (y : Heard). y.lost) (tti_heard d p t told h air e) ∙ by_test (p == t % 8)
   where
     by_test : (b : Bool)
-        → (heard Up p (sleeping asleep ++ (way_records Down down ++ way_records Up up))
-        (if b then hearing h.lost true (idle h.lost ∷ h.flights) else hearing h.lost false h.flights)).flights
-        ≡ (if b then flight_of h.lost asleep up.block up.air ∷ h.flights else h.flights)
-    by_test true = ap (λ (x : Heard). x.flights) (up_here p asleep h.lost down up h.flights)
-    by_test false = ap (λ (x : Heard). x.flights)
-        (all_elsewhere Up p (sleeping asleep ++ (way_records Down down ++ way_records Up up)) h.lost h.flights
-        (tti_air asleep down up))
-
-down_loses : (t p : ℕ) (asleep : Bool) (down up : WayTold) (h : Heard)
-    → (heard Down p (records.Tti t ∷ (sleeping asleep ++ (way_records Down down ++ way_records Up up))) h).lost ≡ h.lost
-down_loses t p asleep down up h = by_test (p == t % 8)
-  where
-    by_test : (b : Bool)
-        → (heard Down p (sleeping asleep ++ (way_records Down down ++ way_records Up up))
-        (if b then hearing h.lost true (idle h.lost ∷ h.flights) else hearing h.lost false h.flights)).lost
+        → (if b then hearing h.lost true (flight_in d h.lost (told_all told blank_tti) ∷ h.flights)
+        else hearing h.lost false h.flights).lost
         ≡ h.lost
-    by_test true = ap (λ (x : Heard). x.lost) (down_here p asleep h.lost down up h.flights)
-    by_test false = ap (λ (x : Heard). x.lost)
-        (all_elsewhere Down p (sleeping asleep ++ (way_records Down down ++ way_records Up up)) h.lost h.flights
-        (tti_air asleep down up))
-
-up_loses : (t p : ℕ) (asleep : Bool) (down up : WayTold) (h : Heard)
-    → (heard Up p (records.Tti t ∷ (sleeping asleep ++ (way_records Down down ++ way_records Up up))) h).lost ≡ h.lost
-up_loses t p asleep down up h = by_test (p == t % 8)
-  where
-    by_test : (b : Bool)
-        → (heard Up p (sleeping asleep ++ (way_records Down down ++ way_records Up up))
-        (if b then hearing h.lost true (idle h.lost ∷ h.flights) else hearing h.lost false h.flights)).lost
-        ≡ h.lost
-    by_test true = ap (λ (x : Heard). x.lost) (up_here p asleep h.lost down up h.flights)
-    by_test false = ap (λ (x : Heard). x.lost)
-        (all_elsewhere Up p (sleeping asleep ++ (way_records Down down ++ way_records Up up)) h.lost h.flights
-        (tti_air asleep down up))
+    by_test true = refl
+    by_test false = refl
 
 -- ---- the checker stands where what was heard has it
 
@@ -253,7 +242,7 @@ carries_now maximum a b c hs k = record {
 pub record FlownRight (t : ℕ) (g : Granted) (flown : List Record) : Type 0 where
   pub asleep : Bool
   pub may : (not asleep || g.may_sleep) ≡ true
-  pub flies : Flies asleep t g.up_grant g.up g.down_grant g.down flown
+  pub flies : FliesInAnyOrder asleep t g.up_grant g.up g.down_grant g.down flown
 
 abbrev pub tti_of : ℕ → List Record → Granted → Due → Checking → Checking
 tti_of t flown g due c = after_tti (after_records flown (with_tti t g due c))
@@ -306,13 +295,15 @@ tti_parts t g due x c e =
     record { number_is = eqb-true t c.next number.1; in_order = r.0; may = r.1; down = q.1; up = p.1 }
 
 -- as gathered
-sound_as : (maximum : ℕ) (a b : Bool) (t : ℕ) (g : Granted) (due : Due) (x : TtiTold) (c : Checking) (hs : Hearings)
-    → Knows maximum a b c hs → b ≡ is_miss g.up.fate → TtiParts t g x c → (judged_as t g due x c).right ≡ true
-    → Knows maximum a b (judged_as t g due x c) (heard_more (records.Tti t ∷ records_of_tti x) hs)
-sound_as maximum a b t g due x c hs k lost h right =
+sound_as : (maximum : ℕ) (a b : Bool) (t : ℕ) (flown : List Record) (g : Granted) (due : Due) (x : TtiTold)
+    (c : Checking) (hs : Hearings) → Knows maximum a b c hs → b ≡ is_miss g.up.fate → AllAir flown
+    → told_all flown blank_tti ≡ x → TtiParts t g x c → (judged_as t g due x c).right ≡ true
+    → Knows maximum a b (judged_as t g due x c) (heard_more (records.Tti t ∷ flown) hs)
+sound_as maximum a b t flown g due x c hs k lost air is h right =
     let f = flight_of a x.asleep x.down.block x.down.air in
     let u = flight_of b x.asleep x.up.block x.up.air in
-    let more = heard_more (records.Tti t ∷ records_of_tti x) hs in
+    let more = heard_more (records.Tti t ∷ flown) hs in
+    let order : (told_all flown blank_tti).in_order ≡ true = ap (λ (y : TtiTold). y.in_order) is ∙ h.in_order in
     record {
       some = k.some;
       is_right = right;
@@ -322,14 +313,14 @@ sound_as maximum a b t g due x c hs k lost h right =
           (down_goes_on maximum t g.down_grant (missed x.asleep g.down) x.down.block x.down.air c.down
           (past_of hs Down) a
           x.asleep k.some k.down h.down)
-          (λ p lt. sym (down_flights t p x.asleep a x.down x.up (hs Down p) (k.down_lost_is p)));
+          (λ p lt. sym (tti_flights Down t p flown x a (hs Down p) air is h.in_order (k.down_lost_is p)));
       up = up_same maximum (after_up t (missed x.asleep g.up) x.up.block x.up.air c.up)
           (with_flight t u (past_of hs Up)) (past_of more Up)
           (up_goes_on maximum t g.up_grant g.up x.up.block x.up.air c.up
           (past_of hs Up) b x.asleep k.some lost k.up h.up)
-          (λ p lt. sym (up_flights t p x.asleep b x.down x.up (hs Up p) (k.up_lost_is p)));
-      down_lost_is = λ p. down_loses t p x.asleep x.down x.up (hs Down p) ∙ k.down_lost_is p;
-      up_lost_is = λ p. up_loses t p x.asleep x.down x.up (hs Up p) ∙ k.up_lost_is p;
+          (λ p lt. sym (tti_flights Up t p flown x b (hs Up p) air is h.in_order (k.up_lost_is p)));
+      down_lost_is = λ p. tti_loses Down t p flown (hs Down p) air order ∙ k.down_lost_is p;
+      up_lost_is = λ p. tti_loses Up t p flown (hs Up p) air order ∙ k.up_lost_is p;
     }
 
 pub tti_sound : (maximum : ℕ) (a b : Bool) (t : ℕ) (flown : List Record) (g : Granted) (due : Due) (c : Checking)
@@ -342,7 +333,7 @@ tti_sound maximum a b t flown g due c hs k lost inside e =
     let is = tti_is t flown g due c air in
     let right : (judged_as t g due x c).right ≡ true = subst (λ (y : Checking). y.right ≡ true) is e in
     let h = tti_parts t g due x c right in
-    let flown_is = told_is flown air h.in_order in
+    let kinds = kinds_are flown h.in_order in
     let d = down_is t g.down_grant (missed x.asleep g.down) x.down.block x.down.air c.down h.down in
     let u = up_is_right t g.up_grant (missed x.asleep g.up) x.up.block x.up.air c.up h.up in
     record {
@@ -351,25 +342,24 @@ tti_sound maximum a b t flown g due c hs k lost inside e =
         asleep = x.asleep;
         may = h.may;
         flies = record {
-          downward = way_records Down x.down;
-          upward = way_records Up x.up;
-          told_is = flown_is;
-          down_is = down_back t g.down_grant (missed x.asleep g.down) x.down d;
-          up_is = up_back t g.up_grant (missed x.asleep g.up) x.up u;
+          of_air = air_all flown air;
+          sleeps = kinds.sleeps_is;
+          down_is = subst (λ (l : List Record). IsDown t g.down_grant (missed x.asleep g.down) l) (sym kinds.down_is)
+              (down_back t g.down_grant (missed x.asleep g.down) x.down d);
+          up_is = subst (λ (l : List Record). IsUp t g.up_grant (missed x.asleep g.up) l) (sym kinds.up_is)
+              (up_back t g.up_grant (missed x.asleep g.up) x.up u);
         };
       };
-      zero = subst (λ (l : List Record). AllZero l) (sym flown_is)
-          (zero_append (sleeping x.asleep) (way_records Down x.down ++ way_records Up x.up) (sleeping_zero x.asleep)
-          (zero_append (way_records Down x.down) (way_records Up x.up)
+      zero = zero_of_ways flown
+          (subst (λ (l : List Record). AllZero l) (sym kinds.down_is)
           (zero_way Down x.down.block x.down.air
-          (down_zero t g.down_grant (missed x.asleep g.down) x.down.block x.down.air c.down h.down))
+          (down_zero t g.down_grant (missed x.asleep g.down) x.down.block x.down.air c.down h.down)))
+          (subst (λ (l : List Record). AllZero l) (sym kinds.up_is)
           (zero_way Up x.up.block x.up.air
-          (up_zero t g.up_grant (missed x.asleep g.up) x.up.block x.up.air c.up h.up))));
+          (up_zero t g.up_grant (missed x.asleep g.up) x.up.block x.up.air c.up h.up)));
       air = air;
       knows = subst (λ (y : Checking). Knows maximum a b y (heard_more (records.Tti t ∷ flown) hs)) (sym is)
-          (subst
-          (λ (l : List Record). Knows maximum a b (judged_as t g due x c) (heard_more (records.Tti t ∷ l) hs))
-          (sym flown_is) (sound_as maximum a b t g due x c hs k lost h right));
+          (sound_as maximum a b t flown g due x c hs k lost air refl h right);
       next_is = ap (λ (y : Checking). y.next) is;
       due_is = ap (λ (y : Checking). y.due) is;
     }
@@ -415,38 +405,44 @@ visits_if maximum true f l h = h.1
 visits_if maximum false f l h = h
 
 pub flown_air : (t : ℕ) (g : Granted) (flown : List Record) → FlownRight t g flown → AllAir flown
-flown_air t g flown h =
-    let d = down_told t g.down_grant (missed h.asleep g.down) h.flies.downward h.flies.down_is in
-    let u = up_told t g.up_grant (missed h.asleep g.up) h.flies.upward h.flies.up_is in
-    subst (λ (l : List Record). AllAir l)
-    (sym (h.flies.told_is
-    ∙ ap (λ (l : List Record). sleeping h.asleep ++ (l ++ h.flies.upward)) d.flown_is
-    ∙ ap (λ (l : List Record). sleeping h.asleep ++ (way_records Down d.way ++ l)) u.flown_is))
-    (tti_air h.asleep d.way u.way)
+flown_air t g flown h = all_air flown h.flies.of_air
+
+-- what is gathered of a TTI that flies
+record GatheredRight (t : ℕ) (g : Granted) (flown : List Record) (asleep : Bool) : Type 0 where
+  down : DownTold t g.down_grant (missed asleep g.down) (filter (is_toward Down) flown)
+  up : UpTold t g.up_grant (missed asleep g.up) (filter (is_toward Up) flown)
+  told_is : told_all flown blank_tti ≡ gathered asleep down.way up.way
+
+gathered_right : (t : ℕ) (g : Granted) (flown : List Record) (h : FlownRight t g flown)
+    → GatheredRight t g flown h.asleep
+gathered_right t g flown h =
+    let d = down_told t g.down_grant (missed h.asleep g.down) (filter (is_toward Down) flown) h.flies.down_is in
+    let u = up_told t g.up_grant (missed h.asleep g.up) (filter (is_toward Up) flown) h.flies.up_is in
+    record {
+      down = d;
+      up = u;
+      told_is = gives_back flown h.asleep d.way u.way
+          (record { sleeps_is = h.flies.sleeps; down_is = d.flown_is; up_is = u.flown_is });
+    }
 
 pub carries_less : (maximum t : ℕ) (g : Granted) (flown : List Record) (hs : Hearings) → FlownRight t g flown
     → Carries maximum (heard_more (records.Tti t ∷ flown) hs) → Carries maximum hs
 carries_less maximum t g flown hs h carries =
-    let d = down_told t g.down_grant (missed h.asleep g.down) h.flies.downward h.flies.down_is in
-    let u = up_told t g.up_grant (missed h.asleep g.up) h.flies.upward h.flies.up_is in
-    let flown_is : flown ≡ sleeping h.asleep ++ (way_records Down d.way ++ way_records Up u.way) = h.flies.told_is
-    ∙ ap (λ (l : List Record). sleeping h.asleep ++ (l ++ h.flies.upward)) d.flown_is
-    ∙ ap (λ (l : List Record). sleeping h.asleep ++ (way_records Down d.way ++ l)) u.flown_is in
-    let down_is = λ (p : ℕ). ap (λ (l : List Record). (heard Down p (records.Tti t ∷ l) (hs Down p)).flights) flown_is
-    ∙ down_flights t p h.asleep (hs Down p).lost d.way u.way (hs Down p) refl in
-    let up_is = λ (p : ℕ). ap (λ (l : List Record). (heard Up p (records.Tti t ∷ l) (hs Up p)).flights) flown_is
-    ∙ up_flights t p h.asleep (hs Up p).lost d.way u.way (hs Up p) refl in
+    let air = flown_air t g flown h in
+    let x = gathered_right t g flown h in
+    let flights = λ (d : Direction) (p : ℕ). tti_flights d t p flown (gathered h.asleep x.down.way x.up.way)
+    (hs d p).lost (hs d p) air x.told_is refl refl in
     record {
       down_resent = λ p lt. resent_if maximum (p == t % 8) _ (past_of hs Down p)
-          (subst (λ (l : List Flight). AreResent maximum (deeds_of l)) (down_is p) (carries.down_resent p lt));
+          (subst (λ (l : List Flight). AreResent maximum (deeds_of l)) (flights Down p) (carries.down_resent p lt));
       down_built = λ p lt. built_if maximum (p == t % 8) _ (past_of hs Down p)
-          (subst (λ (l : List Flight). AreBuilt maximum (deeds_of l)) (down_is p) (carries.down_built p lt));
+          (subst (λ (l : List Flight). AreBuilt maximum (deeds_of l)) (flights Down p) (carries.down_built p lt));
       down_answered = λ p lt. seen_if (p == t % 8) _ (past_of hs Down p)
-          (subst (λ (l : List Flight). AreAnsweredRight (seen l)) (down_is p) (carries.down_answered p lt));
+          (subst (λ (l : List Flight). AreAnsweredRight (seen l)) (flights Down p) (carries.down_answered p lt));
       up_resent = λ p lt. resent_if maximum (p == t % 8) _ (past_of hs Up p)
-          (subst (λ (l : List Flight). AreResent maximum (deeds_of l)) (up_is p) (carries.up_resent p lt));
+          (subst (λ (l : List Flight). AreResent maximum (deeds_of l)) (flights Up p) (carries.up_resent p lt));
       up_visits = λ p lt. visits_if maximum (p == t % 8) _ (past_of hs Up p)
-          (subst (λ (l : List Flight). AreVisits maximum l) (up_is p) (carries.up_visits p lt));
+          (subst (λ (l : List Flight). AreVisits maximum l) (flights Up p) (carries.up_visits p lt));
     }
 
 -- ---- what is right is judged so
@@ -456,26 +452,18 @@ pub tti_complete : (maximum : ℕ) (a b : Bool) (t : ℕ) (flown : List Record) 
     → AllZero flown → Carries maximum (heard_more (records.Tti t ∷ flown) hs)
     → (tti_of t flown g due c).right ≡ true
 tti_complete maximum a b t flown g due c hs k lost number h zero carries =
-    let d = down_told t g.down_grant (missed h.asleep g.down) h.flies.downward h.flies.down_is in
-    let u = up_told t g.up_grant (missed h.asleep g.up) h.flies.upward h.flies.up_is in
-    let flown_is : flown ≡ sleeping h.asleep ++ (way_records Down d.way ++ way_records Up u.way) = h.flies.told_is
-    ∙ ap (λ (l : List Record). sleeping h.asleep ++ (l ++ h.flies.upward)) d.flown_is
-    ∙ ap (λ (l : List Record). sleeping h.asleep ++ (way_records Down d.way ++ l)) u.flown_is in
+    let air = flown_air t g flown h in
+    let r = gathered_right t g flown h in
+    let d = r.down in
+    let u = r.up in
     let at = t % 8 in
-    let x : TtiTold = record { in_order = true; asleep = h.asleep; down = d.way; up = u.way } in
-    let x_is : told_all flown blank_tti ≡ x =
-    ap (λ (l : List Record). told_all l blank_tti) flown_is ∙ gives_back h.asleep d.way u.way in
-    let zeros : AllZero (sleeping h.asleep ++ (way_records Down d.way ++ way_records Up u.way)) =
-    subst (λ (l : List Record). AllZero l) flown_is zero in
-    let ways = zero_second (sleeping h.asleep) (way_records Down d.way ++ way_records Up u.way) zeros in
+    let x = gathered h.asleep d.way u.way in
     let down_zeros = way_zero Down d.way.block d.way.air
-    (zero_first (way_records Down d.way) (way_records Up u.way) ways) in
+    (subst (λ (l : List Record). AllZero l) d.flown_is (zero_of_way Down flown zero)) in
     let up_zeros = way_zero Up u.way.block u.way.air
-    (zero_second (way_records Down d.way) (way_records Up u.way) ways) in
-    let down_is = ap (λ (l : List Record). (heard Down at (records.Tti t ∷ l) (hs Down at)).flights) flown_is
-    ∙ down_flights t at h.asleep a d.way u.way (hs Down at) (k.down_lost_is at) in
-    let up_is = ap (λ (l : List Record). (heard Up at (records.Tti t ∷ l) (hs Up at)).flights) flown_is
-    ∙ up_flights t at h.asleep b d.way u.way (hs Up at) (k.up_lost_is at) in
+    (subst (λ (l : List Record). AllZero l) u.flown_is (zero_of_way Up flown zero)) in
+    let down_is = tti_flights Down t at flown x a (hs Down at) air r.told_is refl (k.down_lost_is at) in
+    let up_is = tti_flights Up t at flown x b (hs Up at) air r.told_is refl (k.up_lost_is at) in
     let lt : at < 8 = omega arith in
     let down = down_judged maximum t g.down_grant (missed h.asleep g.down) d.way c.down (past_of hs Down) a h.asleep
     k.some k.down d.is down_zeros
@@ -490,4 +478,4 @@ tti_complete maximum a b t flown g due c hs k lost number h zero carries =
     (and_from c.right (t == c.next) k.is_right (eq-eqb t c.next number))
     (and_from _ _ (and_from _ _ h.may down) up) in
     subst (λ (y : Checking). y.right ≡ true)
-    (sym (tti_is t flown g due c (flown_air t g flown h) ∙ ap (λ (y : TtiTold). judged_as t g due y c) x_is)) right
+    (sym (tti_is t flown g due c air ∙ ap (λ (y : TtiTold). judged_as t g due y c) r.told_is)) right

@@ -1,5 +1,5 @@
 -- What a journal tells of a TTI, gathered record by record, and the records that it is
--- (docs/formats/JOURNAL.md; TS 36.321 5.3.2, 5.4.2).
+-- (docs/formats/JOURNAL.md; TS 36.321 5.3.2, 5.4.2, 5.7).
 use Rattle.std.specs.Prelude.{ℕ, List, [], ◌∷◌, ◌++◌, Bool, true, false, not, ◌&&◌, Option, Some}
 use Rattle.std.specs.Prelude.{None, is_none, is_some}
 use Rattle.mac_pdu.specs.declared.item.Direction.{Direction}
@@ -7,7 +7,6 @@ use Rattle.mac_pdu.specs.declared.item.Direction.TheVariants.{Down, Up}
 use Rattle.air_record.specs.declared.record.Arrived.{Arrived}
 use Rattle.air_record.specs.declared.record.Record.{Record}
 use Rattle.air_record.specs.declared.record.Record.TheVariants as records
-use Rattle.promises.specs.Air.{sleeping}
 
 -- a `block` record, and an `air` record
 pub record BlockTold : Type 0 where
@@ -29,7 +28,7 @@ pub record WayTold : Type 0 where
   pub block : Option BlockTold
   pub air : Option AirTold
 
--- all that is told of a TTI, and whether that came in its order
+-- all that is told of a TTI, and whether each of it was told once, a block before what came of it
 pub record TtiTold : Type 0 where
   pub in_order : Bool
   pub asleep : Bool
@@ -42,15 +41,14 @@ no_way = record { block = None; air = None }
 abbrev pub blank_tti : TtiTold
 blank_tti = record { in_order = true; asleep = false; down = no_way; up = no_way }
 
--- ---- record by record: that the terminal sleeps, then the downlink, then the uplink; of each the
--- block, then what came of it
+-- ---- record by record, in any order of the directions and of that the terminal sleeps
 
 abbrev pub is_blank : WayTold → Bool
 is_blank w = is_none w.block && is_none w.air
 
 abbrev pub tells_sleep : TtiTold → TtiTold
 tells_sleep x = record {
-  in_order = x.in_order && not x.asleep && is_blank x.down && is_blank x.up;
+  in_order = x.in_order && not x.asleep;
   asleep = true;
   down = x.down;
   up = x.up;
@@ -64,7 +62,7 @@ put_air a w = record { block = w.block; air = Some a }
 
 abbrev pub tells_block : Direction → BlockTold → TtiTold → TtiTold
 tells_block Down b x = record {
-  in_order = x.in_order && is_blank x.down && is_blank x.up;
+  in_order = x.in_order && is_blank x.down;
   asleep = x.asleep;
   down = put_block b x.down;
   up = x.up;
@@ -78,7 +76,7 @@ tells_block Up b x = record {
 
 abbrev pub tells_air : Direction → AirTold → TtiTold → TtiTold
 tells_air Down a x = record {
-  in_order = x.in_order && not (is_some x.down.air) && is_blank x.up;
+  in_order = x.in_order && not (is_some x.down.air);
   asleep = x.asleep;
   down = put_air a x.down;
   up = x.up;
@@ -102,6 +100,3 @@ air_records d (Some a) = records.Air d a.what a.heard ∷ []
 
 abbrev pub way_records : Direction → WayTold → List Record
 way_records d w = block_records d w.block ++ air_records d w.air
-
-abbrev pub records_of_tti : TtiTold → List Record
-records_of_tti x = sleeping x.asleep ++ (way_records Down x.down ++ way_records Up x.up)

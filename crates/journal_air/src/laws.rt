@@ -8,9 +8,9 @@ pub fn verdict_is_exact()
     ensures { VerdictIsExact }
 {}
 
-/// A journal of which that is true tells of the air as is promised of every journal of ours: its
-/// TTIs are numbered on, what flies in them is as grants and outcomes have it, and each process
-/// does what HARQ has it do.
+/// A journal of which that is true tells of the air as is promised of every journal of ours, once
+/// the records of each TTI stand as ours do: its TTIs are numbered on, what flies in them is as
+/// grants and outcomes have it, and each process does what HARQ has it do.
 pub fn right_air_is_as_promised()
     ensures { RightAirIsAsPromised }
 {}

@@ -164,7 +164,7 @@ impl TtiTold {
     pub(crate) fn sleep(&mut self)
         ensures { self.new ≡ tells_sleep self.old }
     {
-        self.in_order = self.in_order && !self.asleep && self.down.is_blank() && self.up.is_blank();
+        self.in_order = self.in_order && !self.asleep;
         self.asleep = true;
     }
 
@@ -174,7 +174,7 @@ impl TtiTold {
     {
         match direction {
             Direction::Down => {
-                self.in_order = self.in_order && self.down.is_blank() && self.up.is_blank();
+                self.in_order = self.in_order && self.down.is_blank();
                 self.down.send(block);
             }
             Direction::Up => {
@@ -190,7 +190,7 @@ impl TtiTold {
     {
         match direction {
             Direction::Down => {
-                self.in_order = self.in_order && !self.down.has_landed() && self.up.is_blank();
+                self.in_order = self.in_order && !self.down.has_landed();
                 self.down.land(air);
             }
             Direction::Up => {

@@ -9,8 +9,7 @@ use Rattle.std.proofs.lemmas.Bool.{and_parts, false≢true, ltb-true, ltb-false,
 use Rattle.std.proofs.lemmas.List.{take-append-drop, drop_all, length-take, length_push}
 use Rattle.std.proofs.lemmas.Slice.Eq.{bytes_eq-Decides}
 use Rattle.journal_takes.specs.TakeEvents.{TakeEvent, SduSubmitted, SduDiscarded, PduTaken, next_new, kept, without}
-use Rattle.journal_delivered.specs.RightDelivery.{all_submitted}
-use Rattle.journal_delivered.specs.DeliveryChecking.{AwaitedSdus, with_sdu, with_sdus, with_taken, with_discarded}
+use Rattle.journal_delivered.specs.DeliveryChecking.{AwaitedSdus, with_sdu, with_taken, with_discarded}
 use Rattle.journal_delivered.specs.DeliveryChecking.{with_compared, compared_by, is_due, with_up}
 use Rattle.journal_delivered.proofs.Lists.{Sdus, push_assoc, push_front, without_behind, without_seam, without_past}
 
@@ -115,12 +114,6 @@ judged_sdu first es done own a (inr h) = inr (
     taken = h.1.taken;
   },
 )
-
-pub judged_sdus : (first : ℕ) (es : List TakeEvent) (done : Sdus) (owns : Sdus) (a : AwaitedSdus)
-    → Judged first es done a → Judged first (all_submitted owns es) done (with_sdus owns a)
-judged_sdus first es done [] a h = h
-judged_sdus first es done (own ∷ owns) a h =
-    judged_sdus first (SduSubmitted own ∷ es) done owns (with_sdu own a) (judged_sdu first es done own a h)
 
 -- ---- the first that waits is discarded
 

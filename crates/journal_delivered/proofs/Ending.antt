@@ -1,7 +1,7 @@
 -- What the end of a group says of one flow: all that went up is what had to, where it is right, and nothing is right
 -- elsewhere.
 use Rattle.std.proofs.Common.{◌≡◌, ℕ, ◌+◌, ◌-◌, ◌<◌, ◌≤◌, Bool, true, false, List, [], ◌∷◌, ◌++◌, length}
-use Rattle.std.proofs.Common.{take, Option, Some, None, inl, inr, ◌⊎◌, refl, ap, sym, ◌∙◌, arith, if◌then◌else◌}
+use Rattle.std.proofs.Common.{take, inl, inr, ◌⊎◌, refl, ap, sym, ◌∙◌, arith}
 use Rattle.std.proofs.Common.{append-nil, append_assoc, length-append, subst}
 use Rattle.std.specs.Prelude.{nat_lt, ◌&&◌, ◌||◌, ◌==◌}
 use Rattle.std.specs.Str.{bytes_eq}
@@ -10,92 +10,10 @@ use Rattle.std.proofs.lemmas.Bool.{lt-ltb}
 use Rattle.std.proofs.lemmas.Bool.{cases_lt}
 use Rattle.std.proofs.lemmas.List.{length-take, length_push, take_all}
 use Rattle.journal_takes.specs.TakeEvents.{TakeEvent, next_new, kept}
-use Rattle.journal_delivered.specs.RightDelivery.{all_submitted}
-use Rattle.journal_delivered.specs.DeliveryChecking.{AwaitedSdus, with_sdu, with_sdus, compared_by, with_compared}
-use Rattle.journal_delivered.specs.DeliveryChecking.{released_by, released, all_compared, settled, with_end}
+use Rattle.journal_delivered.specs.DeliveryChecking.{AwaitedSdus, compared_by, with_compared, all_compared, settled}
+use Rattle.journal_delivered.specs.DeliveryChecking.{with_end}
 use Rattle.journal_delivered.proofs.Lists.{Sdus, push_front, take_seam, few_taken, front_has}
-use Rattle.journal_delivered.proofs.Awaiting.{Awaits, Differs, Judged, judged_sdus, judged_compared, Follows}
-
--- ---- what the group of a `submit` line submits
-
--- what doesn't change with it
-pub record Leaves (a b : AwaitedSdus) : Type 0 where
-  pub early : b.early ≡ a.early
-  pub opened : b.opened ≡ a.opened
-  pub looped : b.looped ≡ a.looped
-
-leaves_sdu : (own : List ℕ) (a : AwaitedSdus) → Leaves a (with_sdu own a)
-leaves_sdu own a = by (nat_lt (length a.taken) (a.next - a.low))
-  where
-    by : (b : Bool) → Leaves a (if b
-        then record a { taken = a.taken ++ own ∷ [] } else record a { waiting = a.waiting ++ own ∷ [] })
-    by true = record { early = refl; opened = refl; looped = refl }
-    by false = record { early = refl; opened = refl; looped = refl }
-
-leaves_sdus : (owns : Sdus) (a : AwaitedSdus) → Leaves a (with_sdus owns a)
-leaves_sdus [] a = record { early = refl; opened = refl; looped = refl }
-leaves_sdus (own ∷ owns) a =
-    let one = leaves_sdu own a in
-    let more = leaves_sdus owns (with_sdu own a) in
-    record {
-      early = more.early ∙ one.early;
-      opened = more.opened ∙ one.opened;
-      looped = more.looped ∙ one.looped;
-    }
-
--- the SDUs that wait behind the records
-abbrev pub held : Bool → Option (List ℕ) → Sdus → Sdus
-held refused None looped = []
-held refused (Some own) looped = (if refused then [] else own ∷ []) ++ looped
-
-abbrev emptied : AwaitedSdus → AwaitedSdus
-emptied a = record a { opened = None; looped = [] }
-
-judged_emptied : (first : ℕ) (es : List TakeEvent) (done : Sdus) (a : AwaitedSdus) → Judged first es done a
-    → Judged first es done (emptied a)
-judged_emptied first es done a (inl h) = inl (
-  h.0,
-  record {
-    kept_is = h.1.kept_is;
-    low_is = h.1.low_is;
-    next_is = h.1.next_is;
-    few = h.1.few;
-    full = h.1.full;
-  },
-)
-judged_emptied first es done a (inr h) = inr (h.0, h.1)
-
-judged_released : (first : ℕ) (es : List TakeEvent) (done : Sdus) (refused : Bool) (opened : Option (List ℕ))
-    (a : AwaitedSdus) → Judged first es done a
-    → Judged first (all_submitted (held refused opened a.looped) es) done (released_by refused opened a)
-judged_released first es done refused None a h = h
-judged_released first es done true (Some own) a h =
-    judged_sdus first es done a.looped (emptied a) (judged_emptied first es done a h)
-judged_released first es done false (Some own) a h =
-    judged_sdus first es done (own ∷ a.looped) (emptied a) (judged_emptied first es done a h)
-
-early_released : (refused : Bool) (opened : Option (List ℕ)) (a : AwaitedSdus)
-    → (released_by refused opened a).early ≡ a.early
-early_released refused None a = refl
-early_released true (Some own) a = (leaves_sdus a.looped (emptied a)).early
-early_released false (Some own) a = (leaves_sdus (own ∷ a.looped) (emptied a)).early
-
-opened_released : (refused : Bool) (opened : Option (List ℕ)) (a : AwaitedSdus) → a.opened ≡ opened
-    → (released_by refused opened a).opened ≡ None
-opened_released refused None a e = e
-opened_released true (Some own) a e = (leaves_sdus a.looped (emptied a)).opened
-opened_released false (Some own) a e = (leaves_sdus (own ∷ a.looped) (emptied a)).opened
-
--- nothing is held where the group's line submits nothing
-abbrev pub NoneHeld : Option (List ℕ) → Sdus → Type 0
-NoneHeld None looped = looped ≡ []
-NoneHeld (Some own) looped = Unit {0}
-
-looped_released : (refused : Bool) (opened : Option (List ℕ)) (a : AwaitedSdus) → NoneHeld opened a.looped
-    → (released_by refused opened a).looped ≡ []
-looped_released refused None a e = e
-looped_released true (Some own) a e = (leaves_sdus a.looped (emptied a)).looped
-looped_released false (Some own) a e = (leaves_sdus (own ∷ a.looped) (emptied a)).looped
+use Rattle.journal_delivered.proofs.Awaiting.{Awaits, Differs, Judged, judged_compared, Follows}
 
 -- ---- what went up early is compared
 
@@ -165,20 +83,13 @@ settles_all first es done (up ∷ ups) a h =
     subst (λ (zs : Sdus). Settles first es zs (all_compared ups (with_compared up a))) (push_front done ups up)
     (settles_all first es (done ++ up ∷ []) ups (with_compared up a) (settles_one first es done up a.taken a refl h))
 
-leaves_compared : (up : List ℕ) (taken : Sdus) (a : AwaitedSdus) → Leaves a (compared_by up taken a)
-leaves_compared up [] a = record { early = refl; opened = refl; looped = refl }
-leaves_compared up (sdu ∷ more) a = record { early = refl; opened = refl; looped = refl }
+early_compared : (up : List ℕ) (taken : Sdus) (a : AwaitedSdus) → (compared_by up taken a).early ≡ a.early
+early_compared up [] a = refl
+early_compared up (sdu ∷ more) a = refl
 
-leaves_all : (ups : Sdus) (a : AwaitedSdus) → Leaves a (all_compared ups a)
-leaves_all [] a = record { early = refl; opened = refl; looped = refl }
-leaves_all (up ∷ ups) a =
-    let one = leaves_compared up a.taken a in
-    let more = leaves_all ups (with_compared up a) in
-    record {
-      early = more.early ∙ one.early;
-      opened = more.opened ∙ one.opened;
-      looped = more.looped ∙ one.looped;
-    }
+early_all : (ups : Sdus) (a : AwaitedSdus) → (all_compared ups a).early ≡ a.early
+early_all [] a = refl
+early_all (up ∷ ups) a = early_all ups (with_compared up a) ∙ early_compared up a.taken a
 
 -- ---- the verdict
 
@@ -274,80 +185,57 @@ right_complete first came es ups a low h e = by (cases_lt a.low came)
 pub record Rests (first : ℕ) (es : List TakeEvent) (ups : Sdus) (a : AwaitedSdus) : Type 0 where
   pub right : a.right ≡ true
   pub early : a.early ≡ []
-  pub opened : a.opened ≡ None
-  pub looped : a.looped ≡ []
   pub awaits : Awaits first es ups a
 
 pub record Ends (first came : ℕ) (es : List TakeEvent) (ups : Sdus) (a : AwaitedSdus) : Type 0 where
   pub delivered : ups ≡ take (came - first) (kept first es)
   pub rests : Rests first es ups a
 
--- what is told behind the end of a group, and what is kept there before it is judged
-abbrev last_of : Bool → AwaitedSdus → List TakeEvent → List TakeEvent
-last_of refused a es = all_submitted (held refused a.opened a.looped) es
-
-abbrev left_of : Bool → AwaitedSdus → AwaitedSdus
-left_of refused a = settled (released refused a)
-
 abbrev AllWent : ℕ → AwaitedSdus → Type 0
 AllWent came a = ((a.low == came) || (nat_lt a.low came && (length a.taken == 0))) ≡ true
 
-end_settles : (first : ℕ) (es : List TakeEvent) (ups : Sdus) (refused : Bool) (a : AwaitedSdus)
-    → Follows first es ups a → Settles first (last_of refused a es) ups (left_of refused a)
-end_settles first es ups refused a f =
-    settled_is first (last_of refused a es) f.done ups a.early (released refused a)
-    (early_released refused a.opened a) f.ups_are (judged_released first es f.done refused a.opened a f.judged)
+end_settles : (first : ℕ) (es : List TakeEvent) (ups : Sdus) (a : AwaitedSdus) → Follows first es ups a
+    → Settles first es ups (settled a)
+end_settles first es ups a f = settled_is first es f.done ups a.early a refl f.ups_are f.judged
 
-left_rests : (first came : ℕ) (es : List TakeEvent) (ups : Sdus) (refused : Bool) (a : AwaitedSdus)
-    → NoneHeld a.opened a.looped → (with_end refused came a).right ≡ true → Awaits first es ups (left_of refused a)
-    → Rests first es ups (with_end refused came a)
-left_rests first came es ups refused a none right h =
-    let r = released refused a in
-    let leaves = leaves_all r.early (record r { early = [] }) in
-    record {
-      right = right;
-      early = leaves.early;
-      opened = leaves.opened ∙ opened_released refused a.opened a refl;
-      looped = leaves.looped ∙ looped_released refused a.opened a none;
-      awaits = record {
-        kept_is = h.kept_is;
-        low_is = h.low_is;
-        next_is = h.next_is;
-        few = h.few;
-        full = h.full;
-      };
-    }
+left_rests : (first came : ℕ) (es : List TakeEvent) (ups : Sdus) (a : AwaitedSdus)
+    → (with_end came a).right ≡ true → Awaits first es ups (settled a) → Rests first es ups (with_end came a)
+left_rests first came es ups a right h = record {
+  right = right;
+  early = early_all a.early (record a { early = [] });
+  awaits = record {
+    kept_is = h.kept_is;
+    low_is = h.low_is;
+    next_is = h.next_is;
+    few = h.few;
+    full = h.full;
+  };
+}
 
-pub end_sound : (first came : ℕ) (es : List TakeEvent) (ups : Sdus) (refused : Bool) (a : AwaitedSdus)
-    → came ≤ next_new first (all_submitted (held refused a.opened a.looped) es) → NoneHeld a.opened a.looped
-    → Follows first es ups a → (with_end refused came a).right ≡ true
-    → Ends first came (all_submitted (held refused a.opened a.looped) es) ups (with_end refused came a)
-end_sound first came es ups refused a low none f h =
-    let s = left_of refused a in
+pub end_sound : (first came : ℕ) (es : List TakeEvent) (ups : Sdus) (a : AwaitedSdus) → came ≤ next_new first es
+    → Follows first es ups a → (with_end came a).right ≡ true → Ends first came es ups (with_end came a)
+end_sound first came es ups a low f h =
+    let s = settled a in
     let p = and_parts s.right ((s.low == came) || (nat_lt s.low came && (length s.taken == 0))) h in
-    by p.0 p.1 (end_settles first es ups refused a f)
+    by p.0 p.1 (end_settles first es ups a f)
   where
-    by : (left_of refused a).right ≡ true → AllWent came (left_of refused a)
-        → Settles first (last_of refused a es) ups (left_of refused a)
-        → Ends first came (last_of refused a es) ups (with_end refused came a)
+    by : (settled a).right ≡ true → AllWent came (settled a) → Settles first es ups (settled a)
+        → Ends first came es ups (with_end came a)
     by right all (inr g) = absurd (false≢true (sym g.0 ∙ right))
     by right all (inl g) = record {
       delivered =
-          right_sound first came (last_of refused a es) ups (left_of refused a) low
-          (all_went came (left_of refused a).low (left_of refused a).taken all) g.1;
-      rests = left_rests first came (last_of refused a es) ups refused a none h g.1;
+          right_sound first came es ups (settled a) low (all_went came (settled a).low (settled a).taken all) g.1;
+      rests = left_rests first came es ups a h g.1;
     }
 
-pub end_complete : (first came : ℕ) (es : List TakeEvent) (ups : Sdus) (refused : Bool) (a : AwaitedSdus)
-    → first ≤ came → came ≤ next_new first (all_submitted (held refused a.opened a.looped) es)
-    → Follows first es ups a
-    → ups ≡ take (came - first) (kept first (all_submitted (held refused a.opened a.looped) es))
-    → (with_end refused came a).right ≡ true
-end_complete first came es ups refused a high low f e = by (end_settles first es ups refused a f)
+pub end_complete : (first came : ℕ) (es : List TakeEvent) (ups : Sdus) (a : AwaitedSdus) → first ≤ came
+    → came ≤ next_new first es → Follows first es ups a → ups ≡ take (came - first) (kept first es)
+    → (with_end came a).right ≡ true
+end_complete first came es ups a high low f e = by (end_settles first es ups a f)
   where
-    by : Settles first (last_of refused a es) ups (left_of refused a) → (with_end refused came a).right ≡ true
+    by : Settles first es ups (settled a) → (with_end came a).right ≡ true
     by (inl g) =
-        let s = left_of refused a in
+        let s = settled a in
         and_from s.right ((s.low == came) || (nat_lt s.low came && (length s.taken == 0))) g.0
-        (right_complete first came (last_of refused a es) ups (left_of refused a) high g.1 e)
+        (right_complete first came es ups (settled a) high g.1 e)
     by (inr g) = absurd (g.1 [] (came - first) (omega (arith, high, low)) (append-nil ups ∙ e))

@@ -1,9 +1,8 @@
 -- Group by group, the verdict is exact.
-use Rattle.std.proofs.Common.{◌≡◌, ℕ, zero, suc, ◌+◌, ◌-◌, ◌<◌, ◌≤◌, Bool, true, false, List, [], ◌∷◌, length, take}
+use Rattle.std.proofs.Common.{◌≡◌, ℕ, zero, suc, ◌+◌, ◌-◌, ◌<◌, ◌≤◌, Bool, true, List, [], ◌∷◌, length, take}
 use Rattle.std.proofs.Common.{Option, Some, None, inl, inr, ◌↔◌, refl, ap, sym, ◌∙◌, arith, subst, if◌then◌else◌}
 use Rattle.std.proofs.Common.{slice_index_or, replicate}
-use Rattle.std.specs.Prelude.{IsTrue, MatchOption, ◌&&◌, ◌||◌, ◌==◌, option_map}
-use Rattle.std.specs.List.{list_any}
+use Rattle.std.specs.Prelude.{IsTrue, MatchOption, ◌&&◌, ◌==◌, option_map}
 use Rattle.std.proofs.lemmas.Bool.{and_parts, and_from, cases_lt, false≢true}
 use Rattle.std.proofs.lemmas.List.{length-set}
 use Rattle.l2_num.specs.Least.{IsLeast}
@@ -12,32 +11,32 @@ use Rattle.l2_types.specs.declared.channel.Kind.TheVariants as bearers
 use Rattle.l2_types.specs.declared.side.Side.{Side}
 use Rattle.l2_types.specs.declared.side.Side.TheVariants.{Nb, Ue}
 use Rattle.bearer_types.specs.declared.config.BearerConfig.{BearerConfig}
-use Rattle.bearer_types.specs.Sides.{is_same, other}
+use Rattle.bearer_types.specs.Sides.{other}
 use Rattle.air_record.specs.declared.line.Line.{Line}
 use Rattle.air_record.specs.declared.line.Line.TheVariants as lines
 use Rattle.air_text.specs.Groups.{Group}
-use Rattle.promises.specs.Flows.{is_refused, delivered}
+use Rattle.promises.specs.Flows.{delivered}
 use Rattle.journal_lives.specs.FlowLives.{lives_of}
 use Rattle.journal_lives.specs.LifeEvents.{LifeEvent, count_came, AreLives}
 use Rattle.journal_lives.proofs.LivesTold.{lives_are_true}
 use Rattle.journal_flows.specs.Gathering.{MayTake}
 use Rattle.journal_flows.specs.FlowsTold.{flows_told}
 use Rattle.journal_flows.specs.Accounts.{Keeping, is_acked_kind, all_kept}
-use Rattle.journal_flows.specs.Laws.{bearer_on, account_by}
+use Rattle.journal_flows.specs.Laws.{bearer_on, account_by, begins_on}
 use Rattle.journal_flows.proofs.Groups.{flows_are_told, histories_are_lives}
 use Rattle.journal_takes.specs.TakeEvents.{TakeEvent, kept}
-use Rattle.journal_delivered.specs.RightDelivery.{is_acked_data, first_by, begins_on, since_bearer, sdus_told}
+use Rattle.journal_delivered.specs.RightDelivery.{is_acked_data, first_by, since_bearer, sdus_told}
 use Rattle.journal_delivered.specs.RightDelivery.{IsDelivered, DeliveredIsRight}
-use Rattle.journal_delivered.specs.DeliveryChecking.{AwaitedSdus, Checking, nothing_checked, with_opened, with_end}
-use Rattle.journal_delivered.specs.DeliveryChecking.{begun, after_line, after_bearer, changed, all_ended, is_right_on}
-use Rattle.journal_delivered.specs.DeliveryChecking.{all_right}
-use Rattle.journal_delivered.specs.DeliveryChecking.{next_of, came_at, after_group, checked, all_checked}
+use Rattle.journal_delivered.specs.DeliveryChecking.{AwaitedSdus, Checking, nothing_checked, with_end, begun}
+use Rattle.journal_delivered.specs.DeliveryChecking.{after_line, after_bearer, all_ended, is_right_on, all_right}
+use Rattle.journal_delivered.specs.DeliveryChecking.{released, submitted_by, next_of, came_at, ended, after_group}
+use Rattle.journal_delivered.specs.DeliveryChecking.{checked, all_checked}
 use Rattle.journal_delivered.proofs.Lists.{Sdus}
 use Rattle.journal_delivered.proofs.Given.{came_below}
-use Rattle.journal_delivered.proofs.Slots.{slot_at, Sizes, placed, changed_at, changed_sizes, all_heard}
-use Rattle.journal_delivered.proofs.Slots.{checked_sizes, checked_at, checked_stays}
-use Rattle.journal_delivered.proofs.Flow.{Stands, placed_by, opened_by, line_stands, left_by, group_sound}
-use Rattle.journal_delivered.proofs.Flow.{group_complete}
+use Rattle.journal_delivered.proofs.Slots.{slot_at, Sizes, placed, all_heard, all_told, told_sizes, told_at}
+use Rattle.journal_delivered.proofs.Slots.{told_stays, left_of, releases, settles_first, given_by, released_sizes}
+use Rattle.journal_delivered.proofs.Slots.{own_at}
+use Rattle.journal_delivered.proofs.Flow.{Stands, placed_by, line_stands, left_by, group_sound, group_complete}
 
 -- ---- the first COUNT that hasn't come
 
@@ -87,67 +86,41 @@ bearer_ue : (config : BearerConfig) (l : ℕ) (c : Checking) → Sizes c → l �
     ≡ (if config.channel.lcid == l then begun config else slot_at Ue l c)
 bearer_ue config l c size low = placed config.channel.lcid l (begun config) c.ue (size Ue) low
 
-same_slot : (x : Option AwaitedSdus) → x ≡ option_map (λ a. a) x
-same_slot None = refl
-same_slot (Some a) = refl
-
-sides_same : (a b : Side) → is_same a b ≡ is_same b a
-sides_same Nb Nb = refl
-sides_same Nb Ue = refl
-sides_same Ue Nb = refl
-sides_same Ue Ue = refl
-
 line_at : (side : Side) (line : Line) (l : ℕ) (c : Checking) → Sizes c → l ≤ 10
-    → slot_at side l (after_line line c) ≡ option_map (opened_by side l line) (placed_by l line (slot_at side l c))
-line_at Nb (lines.Bearer config options) l c size low =
-    bearer_nb config l c size low
-    ∙ same_slot (if config.channel.lcid == l then begun config else slot_at Nb l c)
-line_at Ue (lines.Bearer config options) l c size low =
-    bearer_ue config l c size low
-    ∙ same_slot (if config.channel.lcid == l then begun config else slot_at Ue l c)
-line_at side (lines.Submit s lcid octets) l c size low =
-    changed_at side s lcid l (with_opened octets) c size low
-    ∙ ap (λ (b : Bool). option_map (λ a. if b && (lcid == l) then with_opened octets a else a) (slot_at side l c))
-    (sides_same side s)
-line_at side line l c size low = same_slot (slot_at side l c)
+    → slot_at side l (after_line line c) ≡ placed_by l line (slot_at side l c)
+line_at Nb (lines.Bearer config options) l c size low = bearer_nb config l c size low
+line_at Ue (lines.Bearer config options) l c size low = bearer_ue config l c size low
+line_at Nb line l c size low = refl
+line_at Ue line l c size low = refl
 
 line_sizes : (line : Line) (c : Checking) → Sizes c → Sizes (after_line line c)
 line_sizes (lines.Bearer config options) c size Nb = length-set c.nb config.channel.lcid (begun config) ∙ size Nb
 line_sizes (lines.Bearer config options) c size Ue = length-set c.ue config.channel.lcid (begun config) ∙ size Ue
-line_sizes (lines.Submit s lcid octets) c size side = changed_sizes s lcid (with_opened octets) c size side
-line_sizes line c size side = size side
+line_sizes line c size Nb = size Nb
+line_sizes line c size Ue = size Ue
 
-record LineStays (c d : Checking) : Type 0 where
-  right : d.right ≡ c.right
-  refused : d.refused ≡ c.refused
-
-line_stays : (line : Line) (c : Checking) → LineStays c (after_line line c)
-line_stays (lines.Bearer config options) c = record { right = refl; refused = refl }
-line_stays (lines.Submit side lcid octets) c = by side
-  where
-    by : (side : Side) → LineStays c (changed side lcid (with_opened octets) c)
-    by Nb = record { right = refl; refused = refl }
-    by Ue = record { right = refl; refused = refl }
-line_stays line c = record { right = refl; refused = refl }
+line_right : (line : Line) (c : Checking) → (after_line line c).right ≡ c.right
+line_right (lines.Bearer config options) c = refl
+line_right line c = refl
 
 -- ---- the end of a group
 
-ended_at : (refused : Bool) (came : ℕ → ℕ) (first : ℕ) (ss : List (Option AwaitedSdus)) (i : ℕ) → i < length ss
-    → slice_index_or (all_ended refused came first ss) i None
-    ≡ option_map (with_end refused (came (first + i))) (slice_index_or ss i None)
-ended_at refused came first [] i lt = absurd (omega (arith, lt))
-ended_at refused came first (s ∷ ss) zero lt =
+ended_at : (came : ℕ → ℕ) (first : ℕ) (ss : List (Option AwaitedSdus)) (i : ℕ) → i < length ss
+    → slice_index_or (all_ended came first ss) i None
+    ≡ option_map (with_end (came (first + i))) (slice_index_or ss i None)
+ended_at came first [] i lt = absurd (omega (arith, lt))
+ended_at came first (s ∷ ss) zero lt =
     let here : first ≡ first + 0 = omega arith in
-    ap (λ (n : ℕ). option_map (with_end refused (came n)) s) here
-ended_at refused came first (s ∷ ss) (suc i) lt =
+    ap (λ (n : ℕ). option_map (with_end (came n)) s) here
+ended_at came first (s ∷ ss) (suc i) lt =
     let shift : first + 1 + i ≡ first + suc i = omega arith in
-    ended_at refused came (first + 1) ss i (omega (arith, lt))
-    ∙ ap (λ (n : ℕ). option_map (with_end refused (came n)) (slice_index_or ss i None)) shift
+    ended_at came (first + 1) ss i (omega (arith, lt))
+    ∙ ap (λ (n : ℕ). option_map (with_end (came n)) (slice_index_or ss i None)) shift
 
-ended_size : (refused : Bool) (came : ℕ → ℕ) (first : ℕ) (ss : List (Option AwaitedSdus))
-    → length (all_ended refused came first ss) ≡ length ss
-ended_size refused came first [] = refl
-ended_size refused came first (s ∷ ss) = ap suc (ended_size refused came (first + 1) ss)
+ended_size : (came : ℕ → ℕ) (first : ℕ) (ss : List (Option AwaitedSdus))
+    → length (all_ended came first ss) ≡ length ss
+ended_size came first [] = refl
+ended_size came first (s ∷ ss) = ap suc (ended_size came (first + 1) ss)
 
 rights_sound : (ss : List (Option AwaitedSdus)) → all_right ss ≡ true → (i : ℕ) → i < length ss
     → is_right_on (slice_index_or ss i None) ≡ true
@@ -164,33 +137,42 @@ rights_complete (s ∷ ss) h =
     (rights_complete ss (λ i lt. h (suc i) (omega (arith, lt))))
 
 group_at : (side : Side) (l : ℕ) (k : Keeping) (d : Checking) → Sizes d → l ≤ 10
-    → slot_at side l (after_group k d) ≡ option_map (with_end d.refused (came_at side k l)) (slot_at side l d)
+    → slot_at side l (ended k d) ≡ option_map (with_end (came_at side k l)) (slot_at side l d)
 group_at Nb l k d size low =
     let from_zero : 0 + l ≡ l = omega arith in
-    ended_at d.refused (came_at Nb k) 0 d.nb l (omega (arith, size Nb, low))
-    ∙ ap (λ (n : ℕ). option_map (with_end d.refused (came_at Nb k n)) (slot_at Nb l d)) from_zero
+    ended_at (came_at Nb k) 0 d.nb l (omega (arith, size Nb, low))
+    ∙ ap (λ (n : ℕ). option_map (with_end (came_at Nb k n)) (slot_at Nb l d)) from_zero
 group_at Ue l k d size low =
     let from_zero : 0 + l ≡ l = omega arith in
-    ended_at d.refused (came_at Ue k) 0 d.ue l (omega (arith, size Ue, low))
-    ∙ ap (λ (n : ℕ). option_map (with_end d.refused (came_at Ue k n)) (slot_at Ue l d)) from_zero
+    ended_at (came_at Ue k) 0 d.ue l (omega (arith, size Ue, low))
+    ∙ ap (λ (n : ℕ). option_map (with_end (came_at Ue k n)) (slot_at Ue l d)) from_zero
 
-group_sizes : (k : Keeping) (d : Checking) → Sizes d → Sizes (after_group k d)
-group_sizes k d size Nb = ended_size d.refused (came_at Nb k) 0 d.nb ∙ size Nb
-group_sizes k d size Ue = ended_size d.refused (came_at Ue k) 0 d.ue ∙ size Ue
+group_sizes : (k : Keeping) (d : Checking) → Sizes d → Sizes (ended k d)
+group_sizes k d size Nb = ended_size (came_at Nb k) 0 d.nb ∙ size Nb
+group_sizes k d size Ue = ended_size (came_at Ue k) 0 d.ue ∙ size Ue
 
 -- ---- a group
 
 abbrev records_checked : Group → Checking → Checking
 records_checked now c = checked now.events (after_line now.line c)
 
-records_sizes : (now : Group) (c : Checking) → Sizes c → Sizes (records_checked now c)
-records_sizes now c size = checked_sizes now.events (after_line now.line c) (line_sizes now.line c size)
+-- behind the SDU of its line, and then behind its records
+abbrev given_first : Group → Checking → Checking
+given_first now c = released (left_of now.events (submitted_by now.line)) (after_line now.line c)
 
-refused_is : (now : Group) (c : Checking) → c.refused ≡ false
-    → (records_checked now c).refused ≡ list_any is_refused now.events
-refused_is now c none =
-    (checked_stays now.events (after_line now.line c)).refused_is
-    ∙ ap (λ (b : Bool). b || list_any is_refused now.events) ((line_stays now.line c).refused ∙ none)
+abbrev group_told : Group → Checking → Checking
+group_told now c = all_told now.events (given_first now c)
+
+group_is : (k : Keeping) (now : Group) (c : Checking)
+    → after_group k (records_checked now c) ≡ ended k (group_told now c)
+group_is k now c = ap (ended k) (settles_first now.events (after_line now.line c))
+
+given_sizes : (now : Group) (c : Checking) → Sizes c → Sizes (given_first now c)
+given_sizes now c size =
+    released_sizes (left_of now.events (submitted_by now.line)) (after_line now.line c) (line_sizes now.line c size)
+
+group_told_sizes : (now : Group) (c : Checking) → Sizes c → Sizes (group_told now c)
+group_told_sizes now c size = told_sizes now.events (given_first now c) (given_sizes now c size)
 
 map_twice : (f g : AwaitedSdus → AwaitedSdus) (x : Option AwaitedSdus)
     → option_map f (option_map g x) ≡ option_map (λ a. f (g a)) x
@@ -200,26 +182,26 @@ map_twice f g (Some a) = refl
 -- what the end of a group leaves of one direction of a channel
 abbrev left_at : MayTake → Group → List Group → Checking → Side → ℕ → Option AwaitedSdus
 left_at may_take now past c side l =
-    option_map (λ a. with_end (list_any is_refused now.events) (kept_at may_take (now ∷ past) side l)
-    (left_by side l now a)) (placed_by l now.line (slot_at side l c))
+    option_map (λ a. with_end (kept_at may_take (now ∷ past) side l) (left_by side l now a))
+    (placed_by l now.line (slot_at side l c))
 
 abbrev next_checked : MayTake → Group → List Group → Checking → Checking
-next_checked may_take now past c = after_group (all_kept may_take (now ∷ past)) (records_checked now c)
+next_checked may_take now past c = ended (all_kept may_take (now ∷ past)) (group_told now c)
 
 next_at : (may_take : MayTake) (now : Group) (past : List Group) (c : Checking) (side : Side) (l : ℕ) → Sizes c
-    → c.refused ≡ false → l ≤ 10
-    → slot_at side l (next_checked may_take now past c) ≡ left_at may_take now past c side l
-next_at may_take now past c side l size none low =
-    group_at side l (all_kept may_take (now ∷ past)) (records_checked now c) (records_sizes now c size) low
-    ∙ ap (λ (b : Bool). option_map (with_end b (kept_at may_take (now ∷ past) side l))
-    (slot_at side l (records_checked now c))) (refused_is now c none)
-    ∙ ap (λ (x : Option AwaitedSdus). option_map
-    (with_end (list_any is_refused now.events) (kept_at may_take (now ∷ past) side l)) x)
-    (checked_at side now.events l (after_line now.line c) (line_sizes now.line c size) low
-    ∙ ap (option_map (all_heard side l now.events)) (line_at side now.line l c size low)
-    ∙ map_twice (all_heard side l now.events) (opened_by side l now.line) (placed_by l now.line (slot_at side l c)))
-    ∙ map_twice (with_end (list_any is_refused now.events) (kept_at may_take (now ∷ past) side l)) (left_by side l now)
-    (placed_by l now.line (slot_at side l c))
+    → l ≤ 10 → slot_at side l (next_checked may_take now past c) ≡ left_at may_take now past c side l
+next_at may_take now past c side l size low =
+    let slot = placed_by l now.line (slot_at side l c) in
+    let given = given_by side l now.line now.events in
+    let heard = all_heard side l now.events in
+    let end = with_end (kept_at may_take (now ∷ past) side l) in
+    group_at side l (all_kept may_take (now ∷ past)) (group_told now c) (group_told_sizes now c size) low
+    ∙ ap (option_map end) (told_at side now.events l (given_first now c) (given_sizes now c size) low
+    ∙ ap (option_map heard)
+    (own_at side now.line now.events l (after_line now.line c) (line_sizes now.line c size) low
+    ∙ ap (option_map given) (line_at side now.line l c size low))
+    ∙ map_twice heard given slot)
+    ∙ map_twice end (left_by side l now) slot
 
 -- ---- one flow
 
@@ -239,8 +221,8 @@ ups_since now past side l = delivered (other side) l (since_bearer l (now ∷ pa
 
 abbrev Prior : Option ℕ → Group → List Group → Checking → Side → ℕ → Type 0
 Prior o now past c side l =
-    Stands o (sdus_told side l (if begins_on l now.line then [] else since_bearer l past))
-    (delivered (other side) l (if begins_on l now.line then [] else since_bearer l past))
+    Stands o (sdus_told side l (if begins_on now.line l then [] else since_bearer l past))
+    (delivered (other side) l (if begins_on now.line l then [] else since_bearer l past))
     (placed_by l now.line (slot_at side l c))
 
 record FlowRight (o : Option ℕ) (may_take : MayTake) (now : Group) (past : List Group) (c : Checking) (side : Side)
@@ -255,31 +237,28 @@ LeastBy o may_take past side l = (first : ℕ) → l ≤ 10 → o ≡ Some first
 
 ends_with : (may_take : MayTake) (now : Group) (past : List Group) (c : Checking) (side : Side) (l : ℕ)
     (a : AwaitedSdus) → placed_by l now.line (slot_at side l c) ≡ Some a
-    → left_at may_take now past c side l ≡ Some (with_end (list_any is_refused now.events)
-    (kept_at may_take (now ∷ past) side l) (left_by side l now a))
+    → left_at may_take now past c side l ≡ Some (with_end (kept_at may_take (now ∷ past) side l) (left_by side l now a))
 ends_with may_take now past c side l a is =
-    ap (option_map (λ (a : AwaitedSdus). with_end (list_any is_refused now.events)
-    (kept_at may_take (now ∷ past) side l) (left_by side l now a))) is
+    ap (option_map (λ (a : AwaitedSdus). with_end (kept_at may_take (now ∷ past) side l) (left_by side l now a))) is
 
 flow_sound : (o : Option ℕ) (may_take : MayTake) (now : Group) (past : List Group) (c : Checking) (side : Side) (l : ℕ)
     → LeastBy o may_take (now ∷ past) side l → Prior o now past c side l → l ≤ 10
     → is_right_on (left_at may_take now past c side l) ≡ true → FlowRight o may_take now past c side l
 flow_sound None may_take now past c side l least h low right = record {
   delivers = tt;
-  stands = ap (option_map (λ (a : AwaitedSdus). with_end (list_any is_refused now.events)
-      (kept_at may_take (now ∷ past) side l) (left_by side l now a))) h;
+  stands = ap (option_map (λ (a : AwaitedSdus). with_end (kept_at may_take (now ∷ past) side l)
+      (left_by side l now a))) h;
 }
 flow_sound (Some first) may_take now past c side l least h low right =
     let came = kept_at may_take (now ∷ past) side l in
     let is = least first low refl in
     let left = ends_with may_take now past c side l h.kept h.is in
-    let end = group_sound side l now (if begins_on l now.line then [] else since_bearer l past) first came h.kept
+    let end = group_sound side l now (if begins_on now.line l then [] else since_bearer l past) first came h.kept
     h.rests (came_below may_take (now ∷ past) side l first came is) (sym (ap is_right_on left) ∙ right) in
     record {
       delivers = record { next = came; next_is = is; is = end.delivered };
       stands = record {
-        kept = with_end (list_any is_refused now.events) (kept_at may_take (now ∷ past) side l)
-            (left_by side l now h.kept);
+        kept = with_end (kept_at may_take (now ∷ past) side l) (left_by side l now h.kept);
         is = left;
         rests = end.rests;
       };
@@ -290,8 +269,8 @@ flow_complete : (o : Option ℕ) (may_take : MayTake) (now : Group) (past : List
     → DeliversBy o (flows_told may_take (now ∷ past) side l) (told_since now past side l) (ups_since now past side l)
     → is_right_on (left_at may_take now past c side l) ≡ true
 flow_complete None may_take now past c side l least h low d =
-    ap is_right_on (ap (option_map (λ (a : AwaitedSdus). with_end (list_any is_refused now.events)
-    (kept_at may_take (now ∷ past) side l) (left_by side l now a))) h)
+    ap is_right_on (ap (option_map (λ (a : AwaitedSdus). with_end (kept_at may_take (now ∷ past) side l)
+    (left_by side l now a))) h)
 flow_complete (Some first) may_take now past c side l least h low d =
     let came = kept_at may_take (now ∷ past) side l in
     let is = least first low refl in
@@ -299,7 +278,7 @@ flow_complete (Some first) may_take now past c side l least h low d =
     let same : d.next ≡ kept_at may_take (now ∷ past) side l =
     omega (arith, one_least p first d.next came d.next_is is, one_least p first came d.next is d.next_is) in
     ap is_right_on (ends_with may_take now past c side l h.kept h.is)
-    ∙ group_complete side l now (if begins_on l now.line then [] else since_bearer l past) first came h.kept h.rests
+    ∙ group_complete side l now (if begins_on now.line l then [] else since_bearer l past) first came h.kept h.rests
     is.from (came_below may_take (now ∷ past) side l first came is)
     (d.is ∙ ap (λ (n : ℕ). take (n - first) (kept first (told_since now past side l))) same)
 
@@ -307,7 +286,6 @@ flow_complete (Some first) may_take now past c side l least h low d =
 
 record AtRest (may_take : MayTake) (past : List Group) (c : Checking) : Type 0 where
   sizes : Sizes c
-  unrefused : c.refused ≡ false
   at : (side : Side) (l : ℕ) → l ≤ 10 → StandsAt may_take past c side l
 
 record Parts (may_take : MayTake) (now : Group) (past : List Group) (c : Checking) : Type 0 where
@@ -315,13 +293,16 @@ record Parts (may_take : MayTake) (now : Group) (past : List Group) (c : Checkin
   nb : all_right (next_checked may_take now past c).nb ≡ true
   ue : all_right (next_checked may_take now past c).ue ≡ true
 
-right_stays : (now : Group) (c : Checking) → (records_checked now c).right ≡ c.right
-right_stays now c = (checked_stays now.events (after_line now.line c)).right ∙ (line_stays now.line c).right
+right_stays : (now : Group) (c : Checking) → (group_told now c).right ≡ c.right
+right_stays now c =
+    (told_stays now.events (given_first now c)).right
+    ∙ (releases (left_of now.events (submitted_by now.line)) (after_line now.line c)).right
+    ∙ line_right now.line c
 
 parts : (may_take : MayTake) (now : Group) (past : List Group) (c : Checking)
     → (next_checked may_take now past c).right ≡ true → Parts may_take now past c
 parts may_take now past c h =
-    let d = records_checked now c in
+    let d = group_told now c in
     let e = next_checked may_take now past c in
     let p = and_parts (d.right && all_right e.nb) (all_right e.ue) h in
     let q = and_parts d.right (all_right e.nb) p.0 in
@@ -330,7 +311,7 @@ parts may_take now past c h =
 whole : (may_take : MayTake) (now : Group) (past : List Group) (c : Checking) → Parts may_take now past c
     → (next_checked may_take now past c).right ≡ true
 whole may_take now past c p =
-    let d = records_checked now c in
+    let d = group_told now c in
     let e = next_checked may_take now past c in
     and_from (d.right && all_right e.nb) (all_right e.ue)
     (and_from d.right (all_right e.nb) (right_stays now c ∙ p.was_right) p.nb) p.ue
@@ -338,7 +319,7 @@ whole may_take now past c p =
 next_sizes : (may_take : MayTake) (now : Group) (past : List Group) (c : Checking) → Sizes c
     → Sizes (next_checked may_take now past c)
 next_sizes may_take now past c size =
-    group_sizes (all_kept may_take (now ∷ past)) (records_checked now c) (records_sizes now c size)
+    group_sizes (all_kept may_take (now ∷ past)) (group_told now c) (group_told_sizes now c size)
 
 right_on : (may_take : MayTake) (now : Group) (past : List Group) (c : Checking) → Sizes c
     → Parts may_take now past c → (side : Side) (l : ℕ) → l ≤ 10
@@ -375,7 +356,7 @@ none_at (suc n) zero = refl
 none_at (suc n) (suc l) = none_at n l
 
 first_rests : (may_take : MayTake) → AtRest may_take [] nothing_checked
-first_rests may_take = record { sizes = size; unrefused = refl; at = none }
+first_rests may_take = record { sizes = size; at = none }
   where
     size : Sizes nothing_checked
     size Nb = refl
@@ -395,27 +376,31 @@ next_sound : (may_take : MayTake) (now : Group) (past : List Group) (c : Checkin
 next_sound may_take now past c r p side l low =
     flow_sound (first_by (bearer_on l (now ∷ past))) may_take now past c side l
     (came_is may_take (now ∷ past) side l) (prior_at may_take now past c side l low r) low
-    (sym (ap is_right_on (next_at may_take now past c side l r.sizes r.unrefused low))
+    (sym (ap is_right_on (next_at may_take now past c side l r.sizes low))
     ∙ right_on may_take now past c r.sizes p side l low)
+
+next_is : (may_take : MayTake) (now : Group) (past : List Group)
+    → all_checked may_take (now ∷ past) ≡ next_checked may_take now past (all_checked may_take past)
+next_is may_take now past = group_is (all_kept may_take (now ∷ past)) now (all_checked may_take past)
 
 sound : (may_take : MayTake) (past : List Group) → (all_checked may_take past).right ≡ true → Sound may_take past
 sound may_take [] h = record { is = tt; rests = first_rests may_take }
 sound may_take (now ∷ past) h =
     let c = all_checked may_take past in
-    let p = parts may_take now past c h in
+    let next = next_is may_take now past in
+    let p = parts may_take now past c (sym (ap (λ (d : Checking). d.right) next) ∙ h) in
     let before = sound may_take past p.was_right in
     let flow = next_sound may_take now past c before.rests p in
     record {
       is = (λ side l low. (flow side l low).delivers, before.is);
-      rests = record {
+      rests = subst (AtRest may_take (now ∷ past)) (sym next) (record {
         sizes = next_sizes may_take now past c before.rests.sizes;
-        unrefused = refl;
         at = λ side l low.
             subst (Stands (first_by (bearer_on l (now ∷ past))) (told_since now past side l)
             (ups_since now past side l))
-            (sym (next_at may_take now past (all_checked may_take past) side l before.rests.sizes
-            before.rests.unrefused low)) (flow side l low).stands;
-      };
+            (sym (next_at may_take now past (all_checked may_take past) side l before.rests.sizes low))
+            (flow side l low).stands;
+      });
     }
 
 complete : (may_take : MayTake) (past : List Group) → DeliveredIsRight may_take past
@@ -425,8 +410,9 @@ complete may_take (now ∷ past) h =
     let c = all_checked may_take past in
     let was = complete may_take past h.1 in
     let r = (sound may_take past was).rests in
-    whole may_take now past c (all_on may_take now past c r.sizes was
-    (λ side l low. ap is_right_on (next_at may_take now past c side l r.sizes r.unrefused low)
+    ap (λ (d : Checking). d.right) (next_is may_take now past)
+    ∙ whole may_take now past c (all_on may_take now past c r.sizes was
+    (λ side l low. ap is_right_on (next_at may_take now past c side l r.sizes low)
     ∙ flow_complete (first_by (bearer_on l (now ∷ past))) may_take now past c side l
     (came_is may_take (now ∷ past) side l) (prior_at may_take now past c side l low r) low (h.0 side l low)))
 

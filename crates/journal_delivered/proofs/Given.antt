@@ -1,7 +1,7 @@
 -- A COUNT that has come was taken: its PDU was given, which a `take` record told.
 use Rattle.std.proofs.Common.{◌≡◌, ℕ, ◌+◌, ◌<◌, ◌≤◌, Bool, true, false, List, [], ◌∷◌, ◌++◌, Option, Some, None}
 use Rattle.std.proofs.Common.{inl, inr, ◌⊎◌, refl, ap, sym, ◌∙◌, arith, subst, if◌then◌else◌}
-use Rattle.std.specs.Prelude.{◌||◌, ◌&&◌, ◌==◌, length, slice_index_or}
+use Rattle.std.specs.Prelude.{◌||◌, ◌&&◌, ◌==◌, length, map, slice_index_or}
 use Rattle.std.proofs.lemmas.Bool.{and_parts, or_left, or_right, false≢true, eqb-true, cases_lt}
 use Rattle.l2_num.specs.Least.{IsLeast}
 use Rattle.l2_types.specs.declared.event.Clock.TheVariants.{Poll, Reorder}
@@ -43,11 +43,13 @@ use Rattle.journal_flows.specs.Gathering.{behind_landing, with_sending, with_flo
 use Rattle.journal_flows.specs.Gathering.{behind_line, behind_end, is_handover, sending_of, within, behind}
 use Rattle.journal_flows.specs.Possible.{is_possible, with_event}
 use Rattle.journal_flows.specs.FlowsTold.{Histories, histories, no_events, with_any, with_told, flows_told}
+use Rattle.journal_flows.specs.Laws.{begins_on}
 use Rattle.pdu_show.specs.declared.kinds.Layout.TheVariants as layouts
 use Rattle.pdcp_pdu.specs.declared.pdu.PdcpKind.TheVariants as pdcp
 use Rattle.promises.specs.Blocks.{kinds}
-use Rattle.journal_delivered.specs.RightDelivery.{begins_on, since_bearer, record_tells, records_tell}
-use Rattle.journal_delivered.specs.RightDelivery.{all_submitted, submits_on, submitted_last, sdus_told}
+use Rattle.promises.specs.Flows.{handed_in}
+use Rattle.promises.specs.Parts.{part_of_line}
+use Rattle.journal_delivered.specs.RightDelivery.{since_bearer, record_tells, records_tell, sdus_told}
 use Rattle.journal_delivered.proofs.Awaiting.{first_low}
 use Rattle.journal_delivered.proofs.Lists.{Sdus}
 
@@ -263,12 +265,12 @@ same_sides Nb Ue h = h
 same_sides Ue Nb h = h
 same_sides Ue Ue h = refl
 
-count_taken : (apart : Bool) (from : Side) (l first : ℕ) (es : List TakeEvent) (side : Side) (lcid : ℕ)
+count_taken : (from : Side) (l first : ℕ) (es : List TakeEvent) (side : Side) (lcid : ℕ)
     (own : Option ℕ) (len : ℕ) → (is_same side from && (lcid == l)) ≡ true → (count : ℕ)
     → is_count own count ≡ true
-    → count < next_new first (record_tells apart from l (records.Of side (events.Take lcid own len)) ++ es)
-count_taken apart from l first es side lcid None len here count c = absurd (false≢true c)
-count_taken apart from l first es side lcid (Some own) len here count c =
+    → count < next_new first (record_tells from l (records.Of side (events.Take lcid own len)) ++ es)
+count_taken from l first es side lcid None len here count c = absurd (false≢true c)
+count_taken from l first es side lcid (Some own) len here count c =
     let p = and_parts (is_same side from) (lcid == l) here in
     by (is_same from side) (lcid == l) (same_sides side from p.0) p.1 (eqb-true own count c)
   where
@@ -278,30 +280,30 @@ count_taken apart from l first es side lcid (Some own) len here count c =
     by true false x y same = absurd (false≢true y)
     by false b x y same = absurd (false≢true x)
 
-told_fit : (apart : Bool) (from : Side) (l first : ℕ) (es : List TakeEvent) (kinds : List (Option Layout)) (more : Bool)
+told_fit : (from : Side) (l first : ℕ) (es : List TakeEvent) (kinds : List (Option Layout)) (more : Bool)
     (side : Side) (event : Event)
-    → AllFit from l (next_new first (record_tells apart from l (records.Of side event) ++ es))
+    → AllFit from l (next_new first (record_tells from l (records.Of side event) ++ es))
     (told_by kinds more side event)
-told_fit apart from l first es kinds more side (events.Take lcid own len) =
-    taken_fit from l (next_new first (record_tells apart from l (records.Of side (events.Take lcid own len)) ++ es))
-    (slice_index_or kinds lcid None) side lcid own len (count_taken apart from l first es side lcid own len)
-told_fit apart from l first es kinds more side (events.Report lcid fms bitmap) =
+told_fit from l first es kinds more side (events.Take lcid own len) =
+    taken_fit from l (next_new first (record_tells from l (records.Of side (events.Take lcid own len)) ++ es))
+    (slice_index_or kinds lcid None) side lcid own len (count_taken from l first es side lcid own len)
+told_fit from l first es kinds more side (events.Report lcid fms bitmap) =
     report_fit from l
-    (next_new first (record_tells apart from l (records.Of side (events.Report lcid fms bitmap)) ++ es))
+    (next_new first (record_tells from l (records.Of side (events.Report lcid fms bitmap)) ++ es))
     (slice_index_or kinds lcid None) side lcid (length bitmap)
-told_fit apart from l first es kinds more side (events.Start lcid Reorder) =
+told_fit from l first es kinds more side (events.Start lcid Reorder) =
     reorder_fit from l
-    (next_new first (record_tells apart from l (records.Of side (events.Start lcid Reorder)) ++ es))
+    (next_new first (record_tells from l (records.Of side (events.Start lcid Reorder)) ++ es))
     (slice_index_or kinds lcid None) (other side) lcid ReorderStarted um.ReorderStarted
-told_fit apart from l first es kinds more side (events.Expired lcid Reorder) =
+told_fit from l first es kinds more side (events.Expired lcid Reorder) =
     reorder_fit from l
-    (next_new first (record_tells apart from l (records.Of side (events.Expired lcid Reorder)) ++ es))
+    (next_new first (record_tells from l (records.Of side (events.Expired lcid Reorder)) ++ es))
     (slice_index_or kinds lcid None) (other side) lcid ReorderExpired um.ReorderExpired
-told_fit apart from l first es kinds more side (events.Expired lcid Poll) =
+told_fit from l first es kinds more side (events.Expired lcid Poll) =
     in_life from l
-    (next_new first (record_tells apart from l (records.Of side (events.Expired lcid Poll)) ++ es)) side lcid
+    (next_new first (record_tells from l (records.Of side (events.Expired lcid Poll)) ++ es)) side lcid
     (PollExpired more)
-told_fit apart from l first es kinds more side event = tt
+told_fit from l first es kinds more side event = tt
 
 sent_flows : (side : Side) (s : Sending) (j : Journal Histories) → (with_sending side s j).flows ≡ j.flows
 sent_flows Nb s j = refl
@@ -310,20 +312,20 @@ sent_flows Ue s j = refl
 below_same : (from : Side) (l n : ℕ) (f g : Histories) → f ≡ g → Below from l n g → Below from l n f
 below_same from l n f g same h = subst (Below from l n) (sym same) h
 
-event_record : (apart : Bool) (from : Side) (l first : ℕ) (es : List TakeEvent) (kinds : List (Option Layout))
+event_record : (from : Side) (l first : ℕ) (es : List TakeEvent) (kinds : List (Option Layout))
     (more : Bool) (side : Side) (event : Event) (j : Journal Histories) → Below from l (next_new first es) j.flows
-    → Below from l (next_new first (record_tells apart from l (records.Of side event) ++ es))
+    → Below from l (next_new first (record_tells from l (records.Of side event) ++ es))
     (behind_event histories kinds more side event j).flows
-event_record apart from l first es kinds more side (events.Send lcid how sn) j h =
+event_record from l first es kinds more side (events.Send lcid how sn) j h =
     let one = records.Of side (events.Send lcid how sn) in
     let named = names (record { lcid = lcid; how = how }) (sending_of side j) in
-    below_same from l (next_new first (record_tells apart from l one ++ es)) (with_sending side named j).flows j.flows
-    (sent_flows side named j) (below_more from l first (record_tells apart from l one) es j.flows h)
-event_record apart from l first es kinds more side event j h =
+    below_same from l (next_new first (record_tells from l one ++ es)) (with_sending side named j).flows j.flows
+    (sent_flows side named j) (below_more from l first (record_tells from l one) es j.flows h)
+event_record from l first es kinds more side event j h =
     let one = records.Of side event in
-    tells_below from l (next_new first (record_tells apart from l one ++ es)) (told_by kinds more side event) j.flows
-    (told_fit apart from l first es kinds more side event)
-    (below_more from l first (record_tells apart from l one) es j.flows h)
+    tells_below from l (next_new first (record_tells from l one ++ es)) (told_by kinds more side event) j.flows
+    (told_fit from l first es kinds more side event)
+    (below_more from l first (record_tells from l one) es j.flows h)
 
 parcel_below : (from : Side) (l n : ℕ) (by : Side) (how : How) (p : Option Parcel) (b : Loaded Histories)
     → Below from l n b.flows → Below from l n (loads_parcel histories by how p b).flows
@@ -348,13 +350,13 @@ come_below from l n by (p ∷ ps) flows h =
     come_below from l n by ps (all_told histories (come_as by p) flows)
     (tells_below from l n (come_as by p) flows (come_fit from l n by p) h)
 
-record_below : (apart : Bool) (from : Side) (l first : ℕ) (es : List TakeEvent) (kinds : List (Option Layout))
+record_below : (from : Side) (l first : ℕ) (es : List TakeEvent) (kinds : List (Option Layout))
     (more : Bool) (one : Record) (j : Journal Histories) → Below from l (next_new first es) j.flows
-    → Below from l (next_new first (record_tells apart from l one ++ es))
+    → Below from l (next_new first (record_tells from l one ++ es))
     (behind_record histories kinds more one j).flows
-record_below apart from l first es kinds more (records.Of side event) j h =
-    event_record apart from l first es kinds more side event j h
-record_below apart from l first es kinds more (records.Block direction process true version octets) j h =
+record_below from l first es kinds more (records.Of side event) j h =
+    event_record from l first es kinds more side event j h
+record_below from l first es kinds more (records.Block direction process true version octets) j h =
     let by = sender_of direction in
     let start : Loaded Histories = record { flows = j.flows; parcels = [] } in
     let b = loads histories kinds by (sending_of by j).named (sdus_read (reading direction octets)) start in
@@ -363,11 +365,11 @@ record_below apart from l first es kinds more (records.Block direction process t
     (sent_flows by kept (with_flows b.flows j))
     (loads_below from l (next_new first es) kinds by (sending_of by j).named (sdus_read (reading direction octets))
     start h)
-record_below apart from l first es kinds more (records.Block direction process false version octets) j h =
+record_below from l first es kinds more (records.Block direction process false version octets) j h =
     let by = sender_of direction in
     let kept = resends process (sending_of by j) in
     below_same from l (next_new first es) (with_sending by kept j).flows j.flows (sent_flows by kept j) h
-record_below apart from l first es kinds more (records.Air direction what heard) j h = by (is_got what)
+record_below from l first es kinds more (records.Air direction what heard) j h = by (is_got what)
   where
     by : (b : Bool)
         → Below from l (next_new first es) (if b then behind_landing histories direction j else j).flows
@@ -375,30 +377,30 @@ record_below apart from l first es kinds more (records.Air direction what heard)
         come_below from l (next_new first es) (sender_of direction) (sent_last (sending_of (sender_of direction) j))
         j.flows h
     by false = h
-record_below apart from l first es kinds more one j h =
-    below_more from l first (record_tells apart from l one) es j.flows h
+record_below from l first es kinds more one j h =
+    below_more from l first (record_tells from l one) es j.flows h
 
-records_below : (apart : Bool) (from : Side) (l first : ℕ) (es : List TakeEvent) (may_take : MayTake)
+records_below : (from : Side) (l first : ℕ) (es : List TakeEvent) (may_take : MayTake)
     (past : List Group) (kinds : List (Option Layout)) (before told : List Record) (j : Journal Histories)
     → Below from l (next_new first es) j.flows
-    → Below from l (next_new first (records_tell apart from l told es))
+    → Below from l (next_new first (records_tell from l told es))
     (behind_records histories may_take past kinds before told j).flows
-records_below apart from l first es may_take past kinds before [] j h = h
-records_below apart from l first es may_take past kinds before (one ∷ told) j h =
+records_below from l first es may_take past kinds before [] j h = h
+records_below from l first es may_take past kinds before (one ∷ told) j h =
     let more = may_take past before one in
-    records_below apart from l first (record_tells apart from l one ++ es) may_take past kinds (one ∷ before) told
-    (behind_record histories kinds more one j) (record_below apart from l first es kinds more one j h)
+    records_below from l first (record_tells from l one ++ es) may_take past kinds (one ∷ before) told
+    (behind_record histories kinds more one j) (record_below from l first es kinds more one j h)
 
 -- ---- groups
 
 submitted_new : (first : ℕ) (sdus : Sdus) (es : List TakeEvent)
-    → next_new first (all_submitted sdus es) ≡ next_new first es
+    → next_new first (map SduSubmitted sdus ++ es) ≡ next_new first es
 submitted_new first [] es = refl
-submitted_new first (sdu ∷ sdus) es = submitted_new first sdus (SduSubmitted sdu ∷ es)
+submitted_new first (sdu ∷ sdus) es = submitted_new first sdus es
 
 line_below : (from : Side) (l first : ℕ) (line : Line) (past : List Group) (j : Journal Histories)
     → Below from l (next_new first (sdus_told from l (since_bearer l past))) j.flows
-    → Below from l (next_new first (sdus_told from l (if begins_on l line then [] else since_bearer l past)))
+    → Below from l (next_new first (sdus_told from l (if begins_on line l then [] else since_bearer l past)))
     (behind_line histories line j).flows
 line_below from l first (lines.Bearer config options) past j h = by (config.channel.lcid == l)
   where
@@ -419,14 +421,14 @@ pub told_below : (may_take : MayTake) (past : List Group) (from : Side) (l first
 told_below may_take [] from l first count g = absurd (false≢true g)
 told_below may_take (now ∷ past) from l first count g =
     let j = behind histories no_events may_take past in
-    let prior = sdus_told from l (if begins_on l now.line then [] else since_bearer l past) in
-    let told = records_tell (submits_on from l now.line) from l now.events prior in
+    let prior = sdus_told from l (if begins_on now.line l then [] else since_bearer l past) in
+    let handed = handed_in from l (part_of_line now.line) now.events in
     end_below from l (next_new first (sdus_told from l (since_bearer l (now ∷ past)))) (is_handover now.line)
     (within histories may_take now past j)
-    (subst (λ (n : ℕ). Below from l n (within histories may_take now past j).flows)
-    (sym (submitted_new first (submitted_last from l now) told))
-    (records_below (submits_on from l now.line) from l first prior may_take past (kinds (now ∷ past)) [] now.events
+    (records_below from l first (map SduSubmitted handed ++ prior) may_take past (kinds (now ∷ past)) [] now.events
     (behind_line histories now.line j)
+    (subst (λ (n : ℕ). Below from l n (behind_line histories now.line j).flows)
+    (sym (submitted_new first handed prior))
     (line_below from l first now.line past j (told_below may_take past from l first)))) count g
 
 -- the first COUNT that hasn't come isn't above the next new one

@@ -3,8 +3,7 @@ use Rattle.std.proofs.Common.{◌≡◌, ℕ, ◌-◌, Bool, true, false, List, 
 use Rattle.std.proofs.Common.{Option, Some, None, inl, inr, refl, ap, sym, ◌∙◌, subst, if◌then◌else◌}
 use Rattle.std.proofs.Common.{append-nil, append_assoc}
 use Rattle.std.specs.Prelude.{◌&&◌, ◌==◌, not, map, cond, MatchOption}
-use Rattle.std.specs.List.{list_any}
-use Rattle.std.proofs.lemmas.Bool.{false≢true}
+use Rattle.std.specs.List.{filter}
 use Rattle.std.proofs.lemmas.Grind.{flat_map-append}
 use Rattle.std.proofs.lemmas.List.{take-append-drop}
 use Rattle.l2_types.specs.declared.side.Side.{Side}
@@ -20,19 +19,18 @@ use Rattle.air_text.specs.Groups.{Group, history}
 use Rattle.law_words.specs.Lists.{AreFirstSdus, IsSubsequence}
 use Rattle.promises.specs.Delivery.{discarded}
 use Rattle.promises.specs.Events.{discards_in, discards_on}
-use Rattle.promises.specs.Flows.{is_refused, handed_in, looped_at, submitted, delivered}
+use Rattle.promises.specs.Flows.{is_refused_at_once, handed_in, looped_at, submitted, delivered}
 use Rattle.promises.specs.Parts.{part_of_line}
-use Rattle.promises.specs.Records.{event_of, events_of, sdu_of}
+use Rattle.promises.specs.Records.{is_looped, event_of, events_of, sdu_of}
 use Rattle.journal_takes.specs.TakeEvents.{TakeEvent, SduSubmitted, SduDiscarded, PduTaken, next_new, kept, without}
 use Rattle.journal_takes.proofs.SduLists.{drop_more}
 use Rattle.journal_flows.specs.FlowsTold.{flows_told}
 use Rattle.journal_flows.specs.Laws.{bearer_on}
 use Rattle.journal_lives.specs.LifeEvents.{LifeEvent}
-use Rattle.journal_delivered.specs.RightDelivery.{first_by, since_bearer, record_tells, records_tell}
-use Rattle.journal_delivered.specs.RightDelivery.{all_submitted, submits_on, sdus_told, IsDelivered}
+use Rattle.journal_delivered.specs.RightDelivery.{first_by, since_bearer, record_tells, records_tell, sdus_told}
+use Rattle.journal_delivered.specs.RightDelivery.{IsDelivered}
 use Rattle.journal_delivered.specs.DeliveryLaws.{ComeInOrder, RightComeInOrder}
 use Rattle.journal_delivered.proofs.Lists.{Sdus}
-use Rattle.journal_delivered.proofs.Slots.{none_looped, loops_step}
 
 -- ---- some of a list, in its order
 
@@ -98,15 +96,6 @@ keeps_sdu first es subs gone own k = record {
   all = λ none. ap (λ (xs : Sdus). xs ++ own ∷ []) (k.all none);
 }
 
-keeps_sdus : (first : ℕ) (es : List TakeEvent) (subs : Sdus) (gone : List ℕ) (owns : Sdus)
-    → Keeps first es subs gone → Keeps first (all_submitted owns es) (subs ++ owns) gone
-keeps_sdus first es subs gone [] k =
-    subst (λ (xs : Sdus). Keeps first es xs gone) (sym (append-nil subs)) k
-keeps_sdus first es subs gone (own ∷ owns) k =
-    subst (λ (xs : Sdus). Keeps first (all_submitted owns (SduSubmitted own ∷ es)) xs gone)
-    (append_assoc subs (own ∷ []) owns)
-    (keeps_sdus first (SduSubmitted own ∷ es) (subs ++ own ∷ []) gone owns (keeps_sdu first es subs gone own k))
-
 keeps_discard : (first : ℕ) (es : List TakeEvent) (subs : Sdus) (gone : List ℕ) (len : ℕ)
     → Keeps first es subs gone → Keeps first (SduDiscarded ∷ es) subs (gone ++ len ∷ [])
 keeps_discard first es subs gone len k = record {
@@ -125,14 +114,11 @@ no_subs first es subs gone k = subst (λ (xs : Sdus). Keeps first es xs gone) (s
 
 -- ---- records
 
-abbrev loops_of : Bool → Side → ℕ → List Record → Sdus
-loops_of apart from l told = if apart then [] else looped_at from l told
-
-keeps_event : (apart : Bool) (from : Side) (l first : ℕ) (side : Side) (event : Event) (es : List TakeEvent)
+keeps_event : (from : Side) (l first : ℕ) (side : Side) (event : Event) (es : List TakeEvent)
     (subs : Sdus) (gone : List ℕ) → Keeps first es subs gone
-    → Keeps first (record_tells apart from l (records.Of side event) ++ es) subs
+    → Keeps first (record_tells from l (records.Of side event) ++ es) subs
     (gone ++ discards_on l (event_of from (records.Of side event)))
-keeps_event apart from l first side (Take lcid (Some count) len) es subs gone k =
+keeps_event from l first side (Take lcid (Some count) len) es subs gone k =
     by (is_same from side) (lcid == l)
   where
     by : (b c : Bool) → Keeps first ((if b then (if c then PduTaken count ∷ [] else []) else []) ++ es) subs
@@ -144,7 +130,7 @@ keeps_event apart from l first side (Take lcid (Some count) len) es subs gone k 
         (discards_on l (event_of from (records.Of side (Take lcid (Some count) len)))) k
     by false c = more_gone first es subs gone
         (discards_on l (event_of from (records.Of side (Take lcid (Some count) len)))) k
-keeps_event apart from l first side (Discard lcid len) es subs gone k =
+keeps_event from l first side (Discard lcid len) es subs gone k =
     by (is_same from side) (lcid == l) refl
   where
     by : (b c : Bool) → (lcid == l) ≡ c
@@ -155,125 +141,106 @@ keeps_event apart from l first side (Discard lcid len) es subs gone k =
         (sym e) (keeps_discard first es subs gone len k)
     by true false e = more_gone first es subs gone (discards_on l (Discard lcid len ∷ [])) k
     by false c e = more_gone first es subs gone [] k
-keeps_event apart from l first side event es subs gone k = by (is_same from side)
+keeps_event from l first side event es subs gone k = by (is_same from side)
   where
     by : (b : Bool) → Keeps first ((if b then [] else []) ++ es) subs
         (gone ++ discards_on l (event_of from (records.Of side event)))
     by true = more_gone first es subs gone (discards_on l (event_of from (records.Of side event))) k
     by false = more_gone first es subs gone (discards_on l (event_of from (records.Of side event))) k
 
-no_loops : (apart : Bool) (from : Side) (l : ℕ) (one : Record) → looped_at from l (one ∷ []) ≡ []
-    → loops_of apart from l (one ∷ []) ≡ []
-no_loops true from l one e = refl
-no_loops false from l one e = e
+none_looped : (side : Side) (l : ℕ) (one : Record) → is_looped l one ≡ false → looped_at side l (one ∷ []) ≡ []
+none_looped Nb l one e = refl
+none_looped Ue l one e = ap (λ (b : Bool). map sdu_of (cond b (one ∷ []) [])) e
 
-keeps_loop : (apart : Bool) (from : Side) (l first lcid : ℕ) (octets : List ℕ) (es : List TakeEvent)
-    (subs : Sdus) (gone : List ℕ) → Keeps first es subs gone
-    → Keeps first (record_tells apart from l (records.Looped lcid octets) ++ es)
-    (subs ++ loops_of apart from l (records.Looped lcid octets ∷ [])) gone
-keeps_loop true Nb l first lcid octets es subs gone k = no_subs first es subs gone k
-keeps_loop true Ue l first lcid octets es subs gone k = no_subs first es subs gone k
-keeps_loop false Nb l first lcid octets es subs gone k = no_subs first es subs gone k
-keeps_loop false Ue l first lcid octets es subs gone k = by (lcid == l)
+keeps_loop : (from : Side) (l first lcid : ℕ) (octets : List ℕ) (es : List TakeEvent) (subs : Sdus) (gone : List ℕ)
+    → Keeps first es subs gone
+    → Keeps first (record_tells from l (records.Looped lcid octets) ++ es)
+    (subs ++ looped_at from l (records.Looped lcid octets ∷ [])) gone
+keeps_loop Nb l first lcid octets es subs gone k = no_subs first es subs gone k
+keeps_loop Ue l first lcid octets es subs gone k = by (lcid == l)
   where
     by : (b : Bool) → Keeps first ((if b then SduSubmitted octets ∷ [] else []) ++ es)
         (subs ++ map sdu_of (cond b (records.Looped lcid octets ∷ []) [])) gone
     by true = keeps_sdu first es subs gone octets k
     by false = no_subs first es subs gone k
 
-plain_record : (apart : Bool) (from : Side) (l first : ℕ) (one : Record) (es : List TakeEvent)
-    (subs : Sdus) (gone more : List ℕ) → looped_at from l (one ∷ []) ≡ []
-    → Keeps first es subs (gone ++ more) → Keeps first es (subs ++ loops_of apart from l (one ∷ [])) (gone ++ more)
-plain_record apart from l first one es subs gone more none k =
-    subst (λ (xs : Sdus). Keeps first es (subs ++ xs) (gone ++ more)) (sym (no_loops apart from l one none))
+plain_record : (from : Side) (l first : ℕ) (one : Record) (es : List TakeEvent) (subs : Sdus) (gone more : List ℕ)
+    → looped_at from l (one ∷ []) ≡ [] → Keeps first es subs (gone ++ more)
+    → Keeps first es (subs ++ looped_at from l (one ∷ [])) (gone ++ more)
+plain_record from l first one es subs gone more none k =
+    subst (λ (xs : Sdus). Keeps first es (subs ++ xs) (gone ++ more)) (sym none)
     (no_subs first es subs (gone ++ more) k)
 
-keeps_record : (apart : Bool) (from : Side) (l first : ℕ) (one : Record) (es : List TakeEvent)
-    (subs : Sdus) (gone : List ℕ) → Keeps first es subs gone
-    → Keeps first (record_tells apart from l one ++ es) (subs ++ loops_of apart from l (one ∷ []))
+keeps_record : (from : Side) (l first : ℕ) (one : Record) (es : List TakeEvent) (subs : Sdus) (gone : List ℕ)
+    → Keeps first es subs gone
+    → Keeps first (record_tells from l one ++ es) (subs ++ looped_at from l (one ∷ []))
     (gone ++ discards_on l (event_of from one))
-keeps_record apart from l first (records.Of side event) es subs gone k =
-    plain_record apart from l first (records.Of side event)
-    (record_tells apart from l (records.Of side event) ++ es) subs gone
+keeps_record from l first (records.Of side event) es subs gone k =
+    plain_record from l first (records.Of side event) (record_tells from l (records.Of side event) ++ es) subs gone
     (discards_on l (event_of from (records.Of side event))) (none_looped from l (records.Of side event) refl)
-    (keeps_event apart from l first side event es subs gone k)
-keeps_record apart from l first (records.Looped lcid octets) es subs gone k =
-    more_gone first (record_tells apart from l (records.Looped lcid octets) ++ es)
-    (subs ++ loops_of apart from l (records.Looped lcid octets ∷ [])) gone []
-    (keeps_loop apart from l first lcid octets es subs gone k)
-keeps_record true from l first one es subs gone k =
-    plain_record true from l first one es subs gone [] (none_looped from l one refl)
-    (more_gone first es subs gone [] k)
-keeps_record false from l first one es subs gone k =
-    plain_record false from l first one es subs gone [] (none_looped from l one refl)
-    (more_gone first es subs gone [] k)
+    (keeps_event from l first side event es subs gone k)
+keeps_record from l first (records.Looped lcid octets) es subs gone k =
+    more_gone first (record_tells from l (records.Looped lcid octets) ++ es)
+    (subs ++ looped_at from l (records.Looped lcid octets ∷ [])) gone []
+    (keeps_loop from l first lcid octets es subs gone k)
+keeps_record Nb l first one es subs gone k =
+    plain_record Nb l first one es subs gone [] (none_looped Nb l one refl) (more_gone first es subs gone [] k)
+keeps_record Ue l first one es subs gone k =
+    plain_record Ue l first one es subs gone [] (none_looped Ue l one refl) (more_gone first es subs gone [] k)
 
-loops_on : (apart : Bool) (from : Side) (l : ℕ) (one : Record) (told : List Record)
-    → loops_of apart from l (one ∷ []) ++ loops_of apart from l told ≡ loops_of apart from l (one ∷ told)
-loops_on true from l one told = refl
-loops_on false from l one told = loops_step from l one told
+loops_on : (side : Side) (l : ℕ) (one : Record) (told : List Record)
+    → looped_at side l (one ∷ []) ++ looped_at side l told ≡ looped_at side l (one ∷ told)
+loops_on Nb l one told = refl
+loops_on Ue l one told = by (is_looped l one)
+  where
+    by : (b : Bool) → map sdu_of (cond b (one ∷ []) []) ++ map sdu_of (filter (is_looped l) told)
+        ≡ map sdu_of (cond b (one ∷ filter (is_looped l) told) (filter (is_looped l) told))
+    by true = refl
+    by false = refl
 
 gone_on : (from : Side) (l : ℕ) (one : Record) (told : List Record)
     → discards_on l (event_of from one) ++ discards_on l (events_of from told)
     ≡ discards_on l (events_of from (one ∷ told))
 gone_on from l one told = sym (flat_map-append (discards_in l) (event_of from one) (events_of from told))
 
-no_loop_told : (apart : Bool) (from : Side) (l : ℕ) → loops_of apart from l [] ≡ []
-no_loop_told true from l = refl
-no_loop_told false Nb l = refl
-no_loop_told false Ue l = refl
+no_loop_told : (from : Side) (l : ℕ) → looped_at from l [] ≡ []
+no_loop_told Nb l = refl
+no_loop_told Ue l = refl
 
-keeps_records : (apart : Bool) (from : Side) (l first : ℕ) (told : List Record) (es : List TakeEvent)
-    (subs : Sdus) (gone : List ℕ) → Keeps first es subs gone
-    → Keeps first (records_tell apart from l told es) (subs ++ loops_of apart from l told)
+keeps_records : (from : Side) (l first : ℕ) (told : List Record) (es : List TakeEvent) (subs : Sdus) (gone : List ℕ)
+    → Keeps first es subs gone
+    → Keeps first (records_tell from l told es) (subs ++ looped_at from l told)
     (gone ++ discards_on l (events_of from told))
-keeps_records apart from l first [] es subs gone k =
-    subst (λ (xs : Sdus). Keeps first es (subs ++ xs) (gone ++ [])) (sym (no_loop_told apart from l))
+keeps_records from l first [] es subs gone k =
+    subst (λ (xs : Sdus). Keeps first es (subs ++ xs) (gone ++ [])) (sym (no_loop_told from l))
     (no_subs first es subs (gone ++ []) (more_gone first es subs gone [] k))
-keeps_records apart from l first (one ∷ told) es subs gone k =
-    subst (λ (ds : List ℕ). Keeps first (records_tell apart from l (one ∷ told) es)
-    (subs ++ loops_of apart from l (one ∷ told)) ds)
+keeps_records from l first (one ∷ told) es subs gone k =
+    subst (λ (ds : List ℕ). Keeps first (records_tell from l (one ∷ told) es)
+    (subs ++ looped_at from l (one ∷ told)) ds)
     (append_assoc gone (discards_on l (event_of from one)) (discards_on l (events_of from told))
     ∙ ap (λ (ds : List ℕ). gone ++ ds) (gone_on from l one told))
-    (subst (λ (xs : Sdus). Keeps first (records_tell apart from l (one ∷ told) es) xs
+    (subst (λ (xs : Sdus). Keeps first (records_tell from l (one ∷ told) es) xs
     ((gone ++ discards_on l (event_of from one)) ++ discards_on l (events_of from told)))
-    (append_assoc subs (loops_of apart from l (one ∷ [])) (loops_of apart from l told)
-    ∙ ap (λ (xs : Sdus). subs ++ xs) (loops_on apart from l one told))
-    (keeps_records apart from l first told (record_tells apart from l one ++ es)
-    (subs ++ loops_of apart from l (one ∷ [])) (gone ++ discards_on l (event_of from one))
-    (keeps_record apart from l first one es subs gone k)))
+    (append_assoc subs (looped_at from l (one ∷ [])) (looped_at from l told)
+    ∙ ap (λ (xs : Sdus). subs ++ xs) (loops_on from l one told))
+    (keeps_records from l first told (record_tells from l one ++ es)
+    (subs ++ looped_at from l (one ∷ [])) (gone ++ discards_on l (event_of from one))
+    (keeps_record from l first one es subs gone k)))
 
 -- ---- groups
 
-handed_none : (from : Side) (l : ℕ) (line : Line) (told : List Record) → submits_on from l line ≡ false
-    → handed_in from l (part_of_line line) told ≡ []
-handed_none from l (lines.Submit side lcid octets) told e =
-    by (is_same side from) (not (list_any is_refused told)) (lcid == l) e
+keeps_own : (from : Side) (l first : ℕ) (line : Line) (told : List Record) (es : List TakeEvent) (subs : Sdus)
+    (gone : List ℕ) → Keeps first es subs gone
+    → Keeps first (map SduSubmitted (handed_in from l (part_of_line line) told) ++ es)
+    (subs ++ handed_in from l (part_of_line line) told) gone
+keeps_own from l first (lines.Submit side lcid octets) told es subs gone k =
+    by (is_same side from && (not (is_refused_at_once side lcid told) && (lcid == l)))
   where
-    by : (b c d : Bool) → (b && d) ≡ false → (if b && (c && d) then octets ∷ [] else []) ≡ []
-    by true true true f = absurd (false≢true (sym f))
-    by true true false f = refl
-    by true false d f = refl
-    by false c d f = refl
-handed_none from l line told e = refl
-
-group_subs : (from : Side) (l first : ℕ) (g : Group) (es : List TakeEvent) (subs : Sdus) (gone : List ℕ) (b : Bool)
-    → submits_on from l g.line ≡ b
-    → Keeps first (records_tell b from l g.events es) (subs ++ loops_of b from l g.events) gone
-    → Keeps first (all_submitted (if b
-    then handed_in from l (part_of_line g.line) g.events ++ looped_at from l g.events else [])
-    (records_tell b from l g.events es))
-    (subs ++ (handed_in from l (part_of_line g.line) g.events ++ looped_at from l g.events)) gone
-group_subs from l first g es subs gone true e k =
-    subst (λ (xs : Sdus). Keeps first (all_submitted
-    (handed_in from l (part_of_line g.line) g.events ++ looped_at from l g.events)
-    (records_tell true from l g.events es))
-    (xs ++ (handed_in from l (part_of_line g.line) g.events ++ looped_at from l g.events)) gone) (append-nil subs)
-    (keeps_sdus first (records_tell true from l g.events es) (subs ++ []) gone
-    (handed_in from l (part_of_line g.line) g.events ++ looped_at from l g.events) k)
-group_subs from l first g es subs gone false e k =
-    subst (λ (xs : Sdus). Keeps first (records_tell false from l g.events es)
-    (subs ++ (xs ++ looped_at from l g.events)) gone) (sym (handed_none from l g.line g.events e)) k
+    by : (b : Bool) → Keeps first (map SduSubmitted (if b then octets ∷ [] else []) ++ es)
+        (subs ++ (if b then octets ∷ [] else [])) gone
+    by true = keeps_sdu first es subs gone octets k
+    by false = no_subs first es subs gone k
+keeps_own from l first line told es subs gone k = no_subs first es subs gone k
 
 history_events : (from : Side) (xs ys : List Record)
     → events_of from (xs ++ ys) ≡ events_of from xs ++ events_of from ys
@@ -292,12 +259,16 @@ keeps_groups : (from : Side) (l first : ℕ) (past : List Group)
     → Keeps first (sdus_told from l past) (submitted from l past) (discarded from l past)
 keeps_groups from l first [] = record { some = tt; all = λ none. refl }
 keeps_groups from l first (g ∷ past) =
+    let handed = handed_in from l (part_of_line g.line) g.events in
     subst (λ (ds : List ℕ). Keeps first (sdus_told from l (g ∷ past)) (submitted from l (g ∷ past)) ds)
     (gone_group from l g past)
-    (group_subs from l first g (sdus_told from l past) (submitted from l past)
-    (discarded from l past ++ discards_on l (events_of from g.events)) (submits_on from l g.line) refl
-    (keeps_records (submits_on from l g.line) from l first g.events (sdus_told from l past) (submitted from l past)
-    (discarded from l past) (keeps_groups from l first past)))
+    (subst (λ (xs : Sdus). Keeps first (sdus_told from l (g ∷ past)) xs
+    (discarded from l past ++ discards_on l (events_of from g.events)))
+    (append_assoc (submitted from l past) handed (looped_at from l g.events))
+    (keeps_records from l first g.events (map SduSubmitted handed ++ sdus_told from l past)
+    (submitted from l past ++ handed) (discarded from l past)
+    (keeps_own from l first g.line g.events (sdus_told from l past) (submitted from l past) (discarded from l past)
+    (keeps_groups from l first past))))
 
 -- ---- what went up
 

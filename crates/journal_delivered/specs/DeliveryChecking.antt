@@ -3,7 +3,7 @@
 -- they could be compared. Nothing of it grows with the journal.
 use Rattle.std.specs.Prelude.{ℕ, ◌+◌, ◌-◌, ◌==◌, nat_lt, max, Bool, true, false, ◌&&◌, ◌||◌}
 use Rattle.std.specs.Prelude.{if◌then◌else◌, List, [], ◌∷◌, ◌++◌, length, take, drop, Option, Some}
-use Rattle.std.specs.Prelude.{None, option_map, is_some, replicate, slice_index_or, slice_set}
+use Rattle.std.specs.Prelude.{None, option_map, replicate, slice_index_or, slice_set}
 use Rattle.std.specs.Str.{bytes_eq}
 use Rattle.l2_types.specs.declared.side.Side.{Side}
 use Rattle.l2_types.specs.declared.side.Side.TheVariants.{Nb, Ue}
@@ -16,11 +16,13 @@ use Rattle.air_record.specs.declared.line.Line.TheVariants as lines
 use Rattle.air_record.specs.declared.record.Record.{Record}
 use Rattle.air_record.specs.declared.record.Record.TheVariants as records
 use Rattle.air_text.specs.Groups.{Group}
+use Rattle.promises.specs.Flows.{refuses}
 use Rattle.journal_lives.specs.FlowLives.{FlowLives}
 use Rattle.journal_flows.specs.Gathering.{MayTake}
 use Rattle.journal_flows.specs.Accounts.{Keeping, account_at, all_kept}
 use Rattle.journal_delivered.specs.declared.awaited_sdus.SduTold.{SduTold}
 use Rattle.journal_delivered.specs.declared.awaited_sdus.SduTold.TheVariants as sdus
+use Rattle.journal_delivered.specs.declared.delivered_checker.SubmittedSdu.{SubmittedSdu}
 use Rattle.journal_delivered.specs.RightDelivery.{is_acked_data}
 
 -- ---- the SDUs of one direction of a bearer
@@ -34,9 +36,6 @@ pub record AwaitedSdus : Type 0 where
   pub waiting : List (List ℕ)
   -- the SDUs that went up in the group and couldn't be compared yet
   pub early : List (List ℕ)
-  -- the SDU of the group's line, and those that the loop submits behind it
-  pub opened : Option (List ℕ)
-  pub looped : List (List ℕ)
   -- each SDU that was compared is the one that was due
   pub right : Bool
 
@@ -48,8 +47,6 @@ none_awaited first = record {
   taken = [];
   waiting = [];
   early = [];
-  opened = None;
-  looped = [];
   right = true;
 }
 
@@ -57,18 +54,6 @@ none_awaited first = record {
 abbrev pub with_sdu : List ℕ → AwaitedSdus → AwaitedSdus
 with_sdu sdu a = if nat_lt (length a.taken) (a.next - a.low)
     then record a { taken = a.taken ++ sdu ∷ [] } else record a { waiting = a.waiting ++ sdu ∷ [] }
-
-abbrev pub with_sdus : List (List ℕ) → AwaitedSdus → AwaitedSdus
-with_sdus [] a = a
-with_sdus (sdu ∷ sdus) a = with_sdus sdus (with_sdu sdu a)
-
-abbrev pub with_opened : List ℕ → AwaitedSdus → AwaitedSdus
-with_opened sdu a = record a { opened = Some sdu }
-
--- the loop submits one
-abbrev pub with_looped : List ℕ → AwaitedSdus → AwaitedSdus
-with_looped sdu a =
-    if is_some a.opened then record a { looped = a.looped ++ sdu ∷ [] } else with_sdu sdu a
 
 -- SDUs that wait have COUNTs now, as many as there are
 abbrev pub filled : AwaitedSdus → AwaitedSdus
@@ -107,22 +92,12 @@ with_up octets a =
 -- ---- what is told of an SDU
 
 abbrev pub with_told : SduTold → AwaitedSdus → AwaitedSdus
-with_told (sdus.Opened octets) a = with_opened octets.now a
-with_told (sdus.Looped octets) a = with_looped octets.now a
+with_told (sdus.Submitted octets) a = with_sdu octets.now a
 with_told (sdus.Taken count) a = with_taken count a
 with_told sdus.Discarded a = with_discarded a
 with_told (sdus.HandedUp octets) a = with_up octets.now a
 
 -- ---- the group ends
-
-abbrev pub released_by : Bool → Option (List ℕ) → AwaitedSdus → AwaitedSdus
-released_by refused None a = a
-released_by refused (Some sdu) a =
-    with_sdus a.looped (if refused then record a { opened = None; looped = [] }
-    else with_sdu sdu (record a { opened = None; looped = [] }))
-
-abbrev pub released : Bool → AwaitedSdus → AwaitedSdus
-released refused a = released_by refused a.opened a
 
 abbrev pub all_compared : List (List ℕ) → AwaitedSdus → AwaitedSdus
 all_compared [] a = a
@@ -137,8 +112,8 @@ judged came a = record a {
   right = a.right && ((a.low == came) || (nat_lt a.low came && (length a.taken == 0)));
 }
 
-abbrev pub with_end : Bool → ℕ → AwaitedSdus → AwaitedSdus
-with_end refused came a = judged came (settled (released refused a))
+abbrev pub with_end : ℕ → AwaitedSdus → AwaitedSdus
+with_end came a = judged came (settled a)
 
 -- ---- those of a side that sends, by channel
 
@@ -150,10 +125,10 @@ abbrev pub changed_on : ℕ → (AwaitedSdus → AwaitedSdus) → List (Option A
 changed_on lcid f channels =
     slice_set channels lcid (option_map f (slice_index_or channels lcid None))
 
-abbrev pub all_ended : Bool → (ℕ → ℕ) → ℕ → List (Option AwaitedSdus) → List (Option AwaitedSdus)
-all_ended refused came lcid [] = []
-all_ended refused came lcid (a ∷ channels) =
-    option_map (with_end refused (came lcid)) a ∷ all_ended refused came (lcid + 1) channels
+abbrev pub all_ended : (ℕ → ℕ) → ℕ → List (Option AwaitedSdus) → List (Option AwaitedSdus)
+all_ended came lcid [] = []
+all_ended came lcid (a ∷ channels) =
+    option_map (with_end (came lcid)) a ∷ all_ended came (lcid + 1) channels
 
 abbrev pub is_right_on : Option AwaitedSdus → Bool
 is_right_on None = true
@@ -169,15 +144,34 @@ pub record Checking : Type 0 where
   pub nb : List (Option AwaitedSdus)
   pub ue : List (Option AwaitedSdus)
   pub right : Bool
-  -- a record of the group refuses the SDU of its line
-  pub refused : Bool
+  -- the SDU of the group's line, until it is submitted or refused
+  pub submitted : Option SubmittedSdu
 
 abbrev pub nothing_checked : Checking
-nothing_checked = record { nb = no_channels; ue = no_channels; right = true; refused = false }
+nothing_checked = record { nb = no_channels; ue = no_channels; right = true; submitted = None }
 
 abbrev pub changed : Side → ℕ → (AwaitedSdus → AwaitedSdus) → Checking → Checking
 changed Nb lcid f c = record c { nb = changed_on lcid f c.nb }
 changed Ue lcid f c = record c { ue = changed_on lcid f c.ue }
+
+-- ---- an SDU is submitted
+
+-- The SDU of a `submit` line is submitted with its line, before the records of its group, unless a
+-- `refused` record of its side and channel stands directly behind the line; a `refused` record
+-- elsewhere says nothing. So what becomes of it is told by the first record of the group, or by its
+-- end where it has none.
+
+-- what is left to be submitted by the record directly behind the line
+abbrev pub unrefused : Record → Option SubmittedSdu → Option SubmittedSdu
+unrefused one None = None
+unrefused one (Some s) = if refuses s.side s.lcid one then None else Some s
+
+abbrev pub submits_own : Option SubmittedSdu → Checking → Checking
+submits_own None c = c
+submits_own (Some s) c = changed s.side s.lcid (with_sdu s.octets) c
+
+abbrev pub released : Option SubmittedSdu → Checking → Checking
+released sdu c = submits_own sdu (record c { submitted = None })
 
 -- ---- a record
 
@@ -187,11 +181,13 @@ after_event side (Discard lcid len) c = changed side lcid with_discarded c
 after_event side (Up lcid octets) c = changed (other side) lcid (with_up octets) c
 after_event side event c = c
 
+abbrev pub record_told : Record → Checking → Checking
+record_told (records.Of side event) c = after_event side event c
+record_told (records.Looped lcid octets) c = changed Ue lcid (with_sdu octets) c
+record_told one c = c
+
 abbrev pub after_record : Record → Checking → Checking
-after_record (records.Of side event) c = after_event side event c
-after_record (records.Looped lcid octets) c = changed Ue lcid (with_looped octets) c
-after_record (records.Refused side lcid why) c = record c { refused = true }
-after_record one c = c
+after_record one c = record_told one (released (unrefused one c.submitted) c)
 
 -- ---- a line, and the end of its group
 
@@ -204,10 +200,17 @@ after_bearer config c = record c {
   ue = slice_set c.ue config.channel.lcid (begun config);
 }
 
+abbrev pub bearers_by : Line → Checking → Checking
+bearers_by (lines.Bearer config options) c = after_bearer config c
+bearers_by line c = c
+
+abbrev pub submitted_by : Line → Option SubmittedSdu
+submitted_by (lines.Submit side lcid octets) =
+    Some (record { side = side; lcid = lcid; octets = octets })
+submitted_by line = None
+
 abbrev pub after_line : Line → Checking → Checking
-after_line (lines.Bearer config options) c = after_bearer config c
-after_line (lines.Submit side lcid octets) c = changed side lcid (with_opened octets) c
-after_line line c = c
+after_line line c = record (bearers_by line c) { submitted = submitted_by line }
 
 -- the first COUNT of a flow that hasn't come
 abbrev pub next_of : Option FlowLives → ℕ
@@ -217,19 +220,19 @@ next_of (Some l) = l.come.next
 abbrev pub came_at : Side → Keeping → ℕ → ℕ
 came_at side k lcid = next_of (account_at side lcid k.journal.flows)
 
-abbrev pub ended_on : Side → Keeping → Bool → List (Option AwaitedSdus)
-    → List (Option AwaitedSdus)
-ended_on side k refused channels = all_ended refused (came_at side k) 0 channels
+abbrev pub ended_on : Side → Keeping → List (Option AwaitedSdus) → List (Option AwaitedSdus)
+ended_on side k channels = all_ended (came_at side k) 0 channels
+
+abbrev pub ended : Keeping → Checking → Checking
+ended k c = record c {
+  nb = ended_on Nb k c.nb;
+  ue = ended_on Ue k c.ue;
+  right = c.right && all_right (ended_on Nb k c.nb) && all_right (ended_on Ue k c.ue);
+}
 
 -- with the accounts of flows as they are behind the group's end
 abbrev pub after_group : Keeping → Checking → Checking
-after_group k c = record {
-  nb = ended_on Nb k c.refused c.nb;
-  ue = ended_on Ue k c.refused c.ue;
-  right = c.right && all_right (ended_on Nb k c.refused c.nb)
-      && all_right (ended_on Ue k c.refused c.ue);
-  refused = false;
-}
+after_group k c = ended k (released c.submitted c)
 
 -- ---- a journal, group by group
 

@@ -1,8 +1,8 @@
 -- When what a journal hands up of acknowledged data is right, whoever made it
 -- (docs/formats/JOURNAL.md): behind each group these are exactly the SDUs of the COUNTs that have
 -- come, in order and each once (TS 36.322 5.1.3, TS 36.323 5.1.2.1.2, 5.2, 5.4).
-use Rattle.std.specs.Prelude.{ℕ, ◌-◌, ◌==◌, ◌≤◌, ◌≡◌, Bool, true, false, ◌&&◌, if◌then◌else◌, List}
-use Rattle.std.specs.Prelude.{[], ◌∷◌, ◌++◌, take, Option, Some, None, MatchOption}
+use Rattle.std.specs.Prelude.{ℕ, ◌-◌, ◌==◌, ◌≤◌, ◌≡◌, Bool, true, false, if◌then◌else◌, List, []}
+use Rattle.std.specs.Prelude.{◌∷◌, ◌++◌, map, take, Option, Some, None, MatchOption}
 use Rattle.l2_num.specs.Least.{IsLeast}
 use Rattle.l2_types.specs.declared.channel.Kind.{Kind}
 use Rattle.l2_types.specs.declared.channel.Kind.TheVariants as bearers
@@ -12,18 +12,16 @@ use Rattle.bearer_types.specs.declared.config.BearerConfig.{BearerConfig}
 use Rattle.bearer_types.specs.declared.event.Event.{Event}
 use Rattle.bearer_types.specs.declared.event.Event.TheVariants.{Take, Discard}
 use Rattle.bearer_types.specs.Sides.{other, is_same}
-use Rattle.air_record.specs.declared.line.Line.{Line}
-use Rattle.air_record.specs.declared.line.Line.TheVariants as lines
 use Rattle.air_record.specs.declared.record.Record.{Record}
 use Rattle.air_record.specs.declared.record.Record.TheVariants as records
 use Rattle.air_text.specs.Groups.{Group}
-use Rattle.promises.specs.Flows.{handed_in, looped_at, delivered}
+use Rattle.promises.specs.Flows.{handed_in, delivered}
 use Rattle.promises.specs.Parts.{part_of_line}
 use Rattle.journal_lives.specs.LifeEvents.{LifeEvent, count_came}
 use Rattle.journal_takes.specs.TakeEvents.{TakeEvent, SduSubmitted, SduDiscarded, PduTaken, kept}
 use Rattle.journal_flows.specs.Gathering.{MayTake}
 use Rattle.journal_flows.specs.FlowsTold.{flows_told}
-use Rattle.journal_flows.specs.Laws.{bearer_on}
+use Rattle.journal_flows.specs.Laws.{bearer_on, begins_on}
 
 -- ---- a bearer
 
@@ -39,55 +37,39 @@ first_by None = None
 first_by (Some config) = if is_acked_data config.kind then Some config.first else None
 
 -- the groups from its line on; a channel has one such line
-abbrev pub begins_on : ℕ → Line → Bool
-begins_on lcid (lines.Bearer config options) = config.channel.lcid == lcid
-begins_on lcid line = false
-
 abbrev pub since_bearer : ℕ → List Group → List Group
 since_bearer lcid [] = []
-since_bearer lcid (g ∷ past) = g ∷ (if begins_on lcid g.line then [] else since_bearer lcid past)
+since_bearer lcid (g ∷ past) = g ∷ (if begins_on g.line lcid then [] else since_bearer lcid past)
 
 -- ---- what is told of the SDUs of a side that sends, on a channel: the latest event first
 
--- by `take` records with a COUNT, by `discard` records, and at the terminal by `loop` records,
--- where these aren't told of apart
+-- by `take` records with a COUNT, by `discard` records, and at the terminal by `loop` records
 abbrev pub event_tells : ℕ → Event → List TakeEvent
 event_tells lcid (Take l (Some count) len) = if l == lcid then PduTaken count ∷ [] else []
 event_tells lcid (Discard l len) = if l == lcid then SduDiscarded ∷ [] else []
 event_tells lcid event = []
 
-abbrev pub record_tells : Bool → Side → ℕ → Record → List TakeEvent
-record_tells apart from lcid (records.Of side event) =
+abbrev pub record_tells : Side → ℕ → Record → List TakeEvent
+record_tells from lcid (records.Of side event) =
     if is_same from side then event_tells lcid event else []
-record_tells false Ue lcid (records.Looped l octets) =
+record_tells Ue lcid (records.Looped l octets) =
     if l == lcid then SduSubmitted octets ∷ [] else []
-record_tells apart from lcid one = []
+record_tells from lcid one = []
 
-abbrev pub records_tell : Bool → Side → ℕ → List Record → List TakeEvent → List TakeEvent
-records_tell apart from lcid [] es = es
-records_tell apart from lcid (one ∷ told) es =
-    records_tell apart from lcid told (record_tells apart from lcid one ++ es)
+abbrev pub records_tell : Side → ℕ → List Record → List TakeEvent → List TakeEvent
+records_tell from lcid [] es = es
+records_tell from lcid (one ∷ told) es =
+    records_tell from lcid told (record_tells from lcid one ++ es)
 
-abbrev pub all_submitted : List (List ℕ) → List TakeEvent → List TakeEvent
-all_submitted [] es = es
-all_submitted (sdu ∷ sdus) es = all_submitted sdus (SduSubmitted sdu ∷ es)
-
--- the SDU of a `submit` line waits behind the records of its group, since one of them may refuse
--- it, and those of the group's `loop` records wait behind it
-abbrev pub submits_on : Side → ℕ → Line → Bool
-submits_on from lcid (lines.Submit side l octets) = is_same side from && (l == lcid)
-submits_on from lcid line = false
-
-abbrev pub submitted_last : Side → ℕ → Group → List (List ℕ)
-submitted_last from lcid g = if submits_on from lcid g.line
-    then handed_in from lcid (part_of_line g.line) g.events ++ looped_at from lcid g.events
-    else []
-
+-- the SDU of a `submit` line is submitted with its line, before the records of its group, unless a
+-- `refused` record of its side and channel stands directly behind the line; a `refused` record
+-- elsewhere says nothing
 abbrev pub sdus_told : Side → ℕ → List Group → List TakeEvent
 sdus_told from lcid [] = []
 sdus_told from lcid (g ∷ past) =
-    all_submitted (submitted_last from lcid g)
-    (records_tell (submits_on from lcid g.line) from lcid g.events (sdus_told from lcid past))
+    records_tell from lcid g.events
+    (map SduSubmitted (handed_in from lcid (part_of_line g.line) g.events)
+    ++ sdus_told from lcid past)
 
 -- ---- of one flow
 

@@ -66,33 +66,25 @@ fn came(flows: &JournalFlows, side: Side, lcid: u8) -> u64
     }
 }
 
-fn end_slot(slot: &mut Option<AwaitedSdus>, refused: bool, came: u64) -> Result<(), NoMemory>
-    ensures { OnOk result (slot.new ≡ option_map (with_end refused came) slot.old) }
+fn end_slot(slot: &mut Option<AwaitedSdus>, came: u64)
+    ensures { slot.new ≡ option_map (with_end came) slot.old }
 {
-    match slot {
-        Some(sdus) => sdus.end(refused, came),
-        None => Ok(()),
+    if let Some(sdus) = slot {
+        sdus.end(came);
     }
 }
 
 // The group ends.
 #[tactic(auto, using(crate::proofs::Channels::ends))]
-pub(crate) fn end(
-    channels: &mut Channels,
-    side: Side,
-    refused: bool,
-    flows: &JournalFlows,
-) -> Result<(), NoMemory>
-    ensures { OnOk result
-        (channels.new.items ≡ ended_on side flows.now refused channels.old.items) }
+pub(crate) fn end(channels: &mut Channels, side: Side, flows: &JournalFlows)
+    ensures { channels.new.items ≡ ended_on side flows.now channels.old.items }
 {
     let mut at = 0;
     while at < channels.len() {
         let came = came(flows, side, at as u8);
-        end_slot(&mut channels[at], refused, came)?;
+        end_slot(&mut channels[at], came);
         at += 1;
     }
-    Ok(())
 }
 
 fn is_right_on(slot: &Option<AwaitedSdus>) -> bool

@@ -1,10 +1,9 @@
 // The SDUs of one direction of a bearer that weren't handed up.
 ghost use Rattle.std.specs.Prelude.{◌≡◌, ◌≤◌, ◌-◌, ◌++◌, length, take, drop, max, OnOk};
-ghost use Rattle.journal_delivered.specs.DeliveryChecking.{none_awaited, with_sdu, with_sdus};
-ghost use Rattle.journal_delivered.specs.DeliveryChecking.{with_opened, with_looped};
+ghost use Rattle.journal_delivered.specs.DeliveryChecking.{none_awaited, with_sdu};
 ghost use Rattle.journal_delivered.specs.DeliveryChecking.{with_taken, with_discarded};
 ghost use Rattle.journal_delivered.specs.DeliveryChecking.{with_compared, is_due, with_up};
-ghost use Rattle.journal_delivered.specs.DeliveryChecking.{with_told, released, all_compared};
+ghost use Rattle.journal_delivered.specs.DeliveryChecking.{with_told, all_compared};
 ghost use Rattle.journal_delivered.specs.DeliveryChecking.{settled, judged, with_end};
 
 use l2_bits::{Bytes, NoMemory};
@@ -18,10 +17,8 @@ type Sdus = VecDeque<Bytes>;
 // What is told of the SDUs of one direction.
 #[derive(Clone, Copy)]
 pub(crate) enum SduTold<'a> {
-    // The line of the group submits one.
-    Opened(&'a [u8]),
-    // The test loop submits one.
-    Looped(&'a [u8]),
+    // One is submitted, by a line or by the test loop.
+    Submitted(&'a [u8]),
     // RLC takes that of a COUNT.
     Taken(u32),
     // The first that waits is discarded.
@@ -56,8 +53,6 @@ pub(crate) struct AwaitedSdus {
     taken: Sdus,
     waiting: Sdus,
     early: Sdus,
-    opened: Option<Bytes>,
-    looped: Sdus,
     right: bool,
 }
 
@@ -73,8 +68,6 @@ impl Model for AwaitedSdus {
       taken = a.taken.items;
       waiting = a.waiting.items;
       early = a.early.items;
-      opened = a.opened;
-      looped = a.looped.items;
       right = a.right;
     } };
 
@@ -94,8 +87,6 @@ impl AwaitedSdus {
             taken: VecDeque::new(alloc),
             waiting: VecDeque::new(alloc),
             early: VecDeque::new(alloc),
-            opened: None,
-            looped: VecDeque::new(alloc),
             right: true,
         }
     }
@@ -112,8 +103,7 @@ impl AwaitedSdus {
         ensures { OnOk result (self.new ≡ with_told what.entry self.old) }
     {
         match what {
-            SduTold::Opened(octets) => self.open(octets),
-            SduTold::Looped(octets) => self.loop_back(octets),
+            SduTold::Submitted(octets) => self.submit(octets),
             SduTold::Taken(count) => self.take(count),
             SduTold::Discarded => {
                 self.discard();
@@ -123,52 +113,23 @@ impl AwaitedSdus {
         }
     }
 
-    // The group ends, in which the SDU of its line was refused or not; `came` is the first COUNT
-    // that hasn't come.
-    pub(crate) fn end(&mut self, refused: bool, came: u64) -> Result<(), NoMemory>
-        ensures { OnOk result (self.new ≡ with_end refused came self.old) }
+    // The group ends; `came` is the first COUNT that hasn't come.
+    pub(crate) fn end(&mut self, came: u64)
+        ensures { self.new ≡ with_end came self.old }
     {
-        self.release(refused)?;
         self.settle();
         self.judge(came);
-        Ok(())
-    }
-
-    fn open(&mut self, octets: &[u8]) -> Result<(), NoMemory>
-        ensures { OnOk result (self.new ≡ with_opened octets.now self.old) }
-    {
-        self.opened = Some(Bytes::from_slice(self.alloc, octets)?);
-        Ok(())
-    }
-
-    fn loop_back(&mut self, octets: &[u8]) -> Result<(), NoMemory>
-        ensures { OnOk result (self.new ≡ with_looped octets.now self.old) }
-    {
-        let sdu = Bytes::from_slice(self.alloc, octets)?;
-        if self.opened.is_some() {
-            self.looped.push_back(sdu)?;
-            return Ok(());
-        }
-        self.submit(sdu)
     }
 
     // An SDU waits, or has a COUNT already where more were taken than there were.
-    fn submit(&mut self, sdu: Bytes) -> Result<(), NoMemory>
-        ensures { OnOk result (self.new ≡ with_sdu sdu self.old) }
+    fn submit(&mut self, octets: &[u8]) -> Result<(), NoMemory>
+        ensures { OnOk result (self.new ≡ with_sdu octets.now self.old) }
     {
+        let sdu = Bytes::from_slice(self.alloc, octets)?;
         if (self.taken.len() as u64) < self.next - self.low {
             self.taken.push_back(sdu)?;
         } else {
             self.waiting.push_back(sdu)?;
-        }
-        Ok(())
-    }
-
-    fn submit_all(&mut self, mut sdus: Sdus) -> Result<(), NoMemory>
-        ensures { OnOk result (self.new ≡ with_sdus sdus.items self.old) }
-    {
-        while let Some(sdu) = sdus.pop_front() {
-            self.submit(sdu)?;
         }
         Ok(())
     }
@@ -223,20 +184,6 @@ impl AwaitedSdus {
         while let Some(sdu) = sdus.pop_front() {
             self.compare(sdu.as_slice());
         }
-    }
-
-    // What the group of a `submit` line submits waits behind its records.
-    fn release(&mut self, refused: bool) -> Result<(), NoMemory>
-        ensures { OnOk result (self.new ≡ released refused self.old) }
-    {
-        let Some(sdu) = self.opened.take() else {
-            return Ok(());
-        };
-        let looped = mem::replace(&mut self.looped, VecDeque::new(self.alloc));
-        if !refused {
-            self.submit(sdu)?;
-        }
-        self.submit_all(looped)
     }
 
     fn settle(&mut self)

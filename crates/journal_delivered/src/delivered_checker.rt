@@ -1,17 +1,47 @@
 // The checker: a journal's lines and records, one by one.
-ghost use Rattle.std.specs.Prelude.{◌≡◌, OnOk};
+ghost use Rattle.std.specs.Prelude.{◌≡◌, IfOk, OnOk};
 ghost use Rattle.bearer_types.specs.Sides.{other};
-ghost use Rattle.journal_delivered.specs.DeliveryChecking.{begun};
+ghost use Rattle.promises.specs.Flows.{refuses};
+ghost use Rattle.journal_delivered.specs.DeliveryChecking.{begun, unrefused};
 
 use crate::awaited_channels::{self, Channels};
 use crate::awaited_sdus::{AwaitedSdus, SduTold};
 use air_record::{Line, Record};
 use bearer_types::{BearerConfig, Event, other};
 use journal_flows::JournalFlows;
-use l2_bits::NoMemory;
+use l2_bits::{Bytes, NoMemory};
 use l2_types::{Kind, Side};
 use std::alloc::Global;
 use std::marker::Model;
+
+// An SDU of a side's channel that a line submits.
+#[derive(Drop)]
+pub(crate) struct SubmittedSdu {
+    side: Side,
+    lcid: u8,
+    octets: Bytes,
+}
+
+// Whether a record refuses the SDU of a line, directly behind it.
+fn refuses(one: &Record, sdu: &SubmittedSdu) -> bool
+    ensures { result ≡ refuses sdu.now.side sdu.now.lcid one.now }
+{
+    match one {
+        Record::Refused { side, lcid, .. } => *side == sdu.side && *lcid == sdu.lcid,
+        _ => false,
+    }
+}
+
+// What the record directly behind a line leaves of the line's SDU.
+fn unrefused(one: &Record, sdu: Option<SubmittedSdu>) -> Option<SubmittedSdu>
+    ensures { result ≡ unrefused one.now sdu }
+{
+    let sdu = sdu?;
+    if refuses(one, &sdu) {
+        return None;
+    }
+    Some(sdu)
+}
 
 // A bearer's SDUs in one direction, where it has acknowledged data.
 fn begun(alloc: Global, config: &BearerConfig) -> Option<AwaitedSdus>
@@ -34,7 +64,7 @@ pub struct DeliveredChecker {
     nb: Channels,
     ue: Channels,
     right: bool,
-    refused: bool,
+    submitted: Option<SubmittedSdu>,
 }
 
 impl Model for DeliveredChecker {
@@ -46,14 +76,16 @@ impl Model for DeliveredChecker {
       nb = c.nb.items;
       ue = c.ue.items;
       right = c.right;
-      refused = c.refused;
+      submitted = c.submitted;
     } };
 }
 
 impl DeliveredChecker {
     ghost use Rattle.journal_delivered.specs.DeliveryChecking.{nothing_checked, after_line};
-    ghost use Rattle.journal_delivered.specs.DeliveryChecking.{after_record, after_event};
-    ghost use Rattle.journal_delivered.specs.DeliveryChecking.{after_bearer, after_group, changed};
+    ghost use Rattle.journal_delivered.specs.DeliveryChecking.{bearers_by, submitted_by};
+    ghost use Rattle.journal_delivered.specs.DeliveryChecking.{after_record, record_told};
+    ghost use Rattle.journal_delivered.specs.DeliveryChecking.{after_event, after_bearer, changed};
+    ghost use Rattle.journal_delivered.specs.DeliveryChecking.{submits_own, ended, after_group};
     ghost use Rattle.journal_delivered.specs.DeliveryChecking.{with_told};
 
     /// Before the first line. It takes no memory.
@@ -65,7 +97,7 @@ impl DeliveredChecker {
             nb: awaited_channels::no_channels(),
             ue: awaited_channels::no_channels(),
             right: true,
-            refused: false,
+            submitted: None,
         }
     }
 
@@ -73,15 +105,23 @@ impl DeliveredChecker {
     pub fn begin_line(&mut self, line: &Line) -> Result<(), NoMemory>
         ensures { OnOk result (self.new ≡ after_line line.now self.old) }
     {
+        if let Line::Bearer { config, .. } = line {
+            self.begin(config);
+        }
+        self.submitted = self.submitted_by(line)?;
+        Ok(())
+    }
+
+    fn submitted_by(&self, line: &Line) -> Result<Option<SubmittedSdu>, NoMemory>
+        ensures { IfOk result (λ s. s ≡ submitted_by line.now) }
+    {
         match line {
-            Line::Bearer { config, .. } => {
-                self.begin(config);
-                Ok(())
-            }
-            Line::Submit { side, lcid, octets } => {
-                self.tell(*side, *lcid, SduTold::Opened(octets.as_slice()))
-            }
-            _ => Ok(()),
+            Line::Submit { side, lcid, octets } => Ok(Some(SubmittedSdu {
+                side: *side,
+                lcid: *lcid,
+                octets: Bytes::from_slice(self.alloc, octets.as_slice())?,
+            })),
+            _ => Ok(None),
         }
     }
 
@@ -89,17 +129,9 @@ impl DeliveredChecker {
     pub fn see(&mut self, one: &Record) -> Result<(), NoMemory>
         ensures { OnOk result (self.new ≡ after_record one.now self.old) }
     {
-        match one {
-            Record::Of { side, event } => self.happen(*side, event),
-            Record::Looped { lcid, octets } => {
-                self.tell(Side::Ue, *lcid, SduTold::Looped(octets.as_slice()))
-            }
-            Record::Refused { .. } => {
-                self.refused = true;
-                Ok(())
-            }
-            _ => Ok(()),
-        }
+        let sdu = unrefused(one, self.submitted.take());
+        self.submit_own(sdu)?;
+        self.tell_record(one)
     }
 
     /// The group has ended: with the next `line` record, the first `sum`, or the journal. `flows`
@@ -108,12 +140,9 @@ impl DeliveredChecker {
     pub fn end_line(&mut self, flows: &JournalFlows) -> Result<(), NoMemory>
         ensures { OnOk result (self.new ≡ after_group flows.now self.old) }
     {
-        awaited_channels::end(&mut self.nb, Side::Nb, self.refused, flows)?;
-        awaited_channels::end(&mut self.ue, Side::Ue, self.refused, flows)?;
-        self.right = self.right
-            && awaited_channels::are_right(&self.nb)
-            && awaited_channels::are_right(&self.ue);
-        self.refused = false;
+        let sdu = self.submitted.take();
+        self.submit_own(sdu)?;
+        self.end(flows);
         Ok(())
     }
 
@@ -131,6 +160,40 @@ impl DeliveredChecker {
         let lcid = config.channel.lcid;
         awaited_channels::set(&mut self.nb, lcid, begun(self.alloc, config));
         awaited_channels::set(&mut self.ue, lcid, begun(self.alloc, config));
+    }
+
+    // The SDU of the group's line is submitted, where one is left.
+    fn submit_own(&mut self, sdu: Option<SubmittedSdu>) -> Result<(), NoMemory>
+        ensures { OnOk result (self.new ≡ submits_own sdu self.old) }
+    {
+        match sdu {
+            Some(SubmittedSdu { side, lcid, octets }) => {
+                self.tell(side, lcid, SduTold::Submitted(octets.as_slice()))
+            }
+            None => Ok(()),
+        }
+    }
+
+    fn tell_record(&mut self, one: &Record) -> Result<(), NoMemory>
+        ensures { OnOk result (self.new ≡ record_told one.now self.old) }
+    {
+        match one {
+            Record::Of { side, event } => self.happen(*side, event),
+            Record::Looped { lcid, octets } => {
+                self.tell(Side::Ue, *lcid, SduTold::Submitted(octets.as_slice()))
+            }
+            _ => Ok(()),
+        }
+    }
+
+    fn end(&mut self, flows: &JournalFlows)
+        ensures { self.new ≡ ended flows.now self.old }
+    {
+        awaited_channels::end(&mut self.nb, Side::Nb, flows);
+        awaited_channels::end(&mut self.ue, Side::Ue, flows);
+        self.right = self.right
+            && awaited_channels::are_right(&self.nb)
+            && awaited_channels::are_right(&self.ue);
     }
 
     // Something is told of the SDUs that a side sends on a channel.

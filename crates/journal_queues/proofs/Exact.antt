@@ -1,8 +1,9 @@
 -- Group by group, the verdict is exact.
 use Rattle.std.proofs.Common.{◌≡◌, ℕ, zero, suc, ◌<◌, ◌≤◌, Bool, true, false, List, [], ◌∷◌, ◌++◌, length, take}
 use Rattle.std.proofs.Common.{Option, Some, None, inl, inr, ◌↔◌, ◌⊎◌, refl, ap, sym, ◌∙◌, arith, if◌then◌else◌, map}
-use Rattle.std.proofs.Common.{slice_index_or, append-nil, append_assoc}
-use Rattle.std.specs.Prelude.{IsTrue, ◌||◌, ◌&&◌, ◌==◌}
+use Rattle.std.proofs.Common.{slice_index_or, append-nil, append_assoc, subst}
+use Rattle.std.specs.Prelude.{IsTrue, ◌||◌, ◌&&◌, ◌==◌, cond}
+use Rattle.std.specs.List.{filter}
 use Rattle.std.proofs.lemmas.Bool.{and_parts, and_from, eqb-true, false≢true}
 use Rattle.std.proofs.lemmas.List.{get_or-replicate, map-append}
 use Rattle.std.proofs.lemmas.Grind.{flat_map-append}
@@ -20,23 +21,22 @@ use Rattle.promises.specs.Configs.{config_by, config_of}
 use Rattle.promises.specs.Delivery.{forges, is_forged}
 use Rattle.promises.specs.Flows.{handed_in, looped_at, submitted}
 use Rattle.promises.specs.Parts.{is_handover, part_of_line}
-use Rattle.promises.specs.Records.{event_of, events_of}
+use Rattle.promises.specs.Records.{is_looped, sdu_of, event_of, events_of}
 use Rattle.promises.specs.Signalling.{submitted_since}
 use Rattle.promises.specs.Taken.{length_in, lengths_on}
 use Rattle.promises.specs.Takes.{left_since}
 use Rattle.promises.specs.Takes.{SdusLeaveInOrder, SignalsLeaveInOrder}
 use Rattle.journal_form.specs.Lines.{HasLayout}
-use Rattle.journal_queues.specs.declared.checker.Submitted.{Submitted}
 use Rattle.journal_queues.specs.Leaving.{Leaving, Queue, no_bearer, queue_told, queue_given, handed_over, begun_as}
 use Rattle.journal_queues.specs.Leaving.{none_left, with_told, with_sdu, is_even, is_queue_right}
 use Rattle.journal_queues.specs.QueueChecking.{Checking, nothing_checked, all_right, after_line}
-use Rattle.journal_queues.specs.QueueChecking.{released, judged, checked, all_checked}
+use Rattle.journal_queues.specs.QueueChecking.{record_told, submitted_by, released, judged, all_checked}
 use Rattle.journal_queues.specs.QueueLaws.{HaveLayouts, ComesNew, BearersAreNew}
 use Rattle.journal_queues.proofs.Compared.{compared, told_compared, sdu_compared, even_sound, even_complete}
-use Rattle.journal_queues.proofs.Queues.{queue_at, Sizes, all_told, checked_sizes, checked_at, loops_told}
-use Rattle.journal_queues.proofs.Queues.{checked_else, queue_by, line_at, line_sizes, line_else}
-use Rattle.journal_queues.proofs.Queues.{forged_else, all_submitted, sdus_given, released_sizes, released_at}
-use Rattle.journal_queues.proofs.Queues.{released_else}
+use Rattle.journal_queues.proofs.Queues.{queue_at, Sizes, all_told, all_submitted, lens_looped, heard, record_at}
+use Rattle.journal_queues.proofs.Queues.{record_sizes, all_records, records_sizes, records_else, left_of, releases}
+use Rattle.journal_queues.proofs.Queues.{settles_first, released_sizes, lens_handed, own_at, queue_by, line_at}
+use Rattle.journal_queues.proofs.Queues.{line_sizes, line_right, forged_else}
 
 -- ---- the queue of a channel, by its bearer
 
@@ -117,6 +117,63 @@ all_given_with o (n ∷ ns) xs ys us vs =
     ∙ ap (λ (zs : List ℕ). queue_with o xs zs us ((vs ++ n ∷ []) ++ ns)) (append_assoc ys (n ∷ []) ns)
     ∙ ap (λ (zs : List ℕ). queue_with o xs (ys ++ n ∷ ns) us zs) (append_assoc vs (n ∷ []) ns)
 
+-- ---- records
+
+looped_step : (s : Side) (l : ℕ) (one : Record) (told : List Record)
+    → lens_looped s l (one ∷ []) ++ lens_looped s l told ≡ lens_looped s l (one ∷ told)
+looped_step Nb l one told = refl
+looped_step Ue l one told = by (is_looped l one)
+  where
+    by : (b : Bool) → map (λ sdu. length sdu) (map sdu_of (cond b (one ∷ []) []))
+        ++ map (λ sdu. length sdu) (map sdu_of (filter (is_looped l) told))
+        ≡ map (λ sdu. length sdu) (map sdu_of (cond b (one ∷ filter (is_looped l) told) (filter (is_looped l) told)))
+    by true = refl
+    by false = refl
+
+told_step : (s : Side) (l : ℕ) (one : Record) (told : List Record)
+    → lengths_on l (event_of s one) ++ lengths_on l (events_of s told) ≡ lengths_on l (events_of s (one ∷ told))
+told_step s l one told = sym (flat_map-append (length_in l) (event_of s one) (events_of s told))
+
+no_more : (s : Side) (l : ℕ) → lens_looped s l [] ≡ []
+no_more Nb l = refl
+no_more Ue l = refl
+
+-- so much more is told of, and so much more is submitted
+more_with : (o : Option BearerConfig) (ns ms xs ys us vs : List ℕ)
+    → all_submitted ms (all_told ns (queue_with o xs ys us vs))
+    ≡ queue_with o (xs ++ ns) (ys ++ ms) (us ++ ns) (vs ++ ms)
+more_with o ns ms xs ys us vs =
+    ap (all_submitted ms) (all_told_with o ns xs ys us vs) ∙ all_given_with o ms (xs ++ ns) ys (us ++ ns) vs
+
+joined_with : (o : Option BearerConfig) (ts tu gs gt ms ns xs ys us vs : List ℕ) → ts ++ tu ≡ ns → gs ++ gt ≡ ms
+    → queue_with o ((xs ++ ts) ++ tu) ((ys ++ gs) ++ gt) ((us ++ ts) ++ tu) ((vs ++ gs) ++ gt)
+    ≡ queue_with o (xs ++ ns) (ys ++ ms) (us ++ ns) (vs ++ ms)
+joined_with o ts tu gs gt ms ns xs ys us vs e f =
+    ap (λ (zs : List ℕ). queue_with o zs ((ys ++ gs) ++ gt) ((us ++ ts) ++ tu) ((vs ++ gs) ++ gt))
+    (append_assoc xs ts tu ∙ ap (λ (zs : List ℕ). xs ++ zs) e)
+    ∙ ap (λ (zs : List ℕ). queue_with o (xs ++ ns) zs ((us ++ ts) ++ tu) ((vs ++ gs) ++ gt))
+    (append_assoc ys gs gt ∙ ap (λ (zs : List ℕ). ys ++ zs) f)
+    ∙ ap (λ (zs : List ℕ). queue_with o (xs ++ ns) (ys ++ ms) zs ((vs ++ gs) ++ gt))
+    (append_assoc us ts tu ∙ ap (λ (zs : List ℕ). us ++ zs) e)
+    ∙ ap (λ (zs : List ℕ). queue_with o (xs ++ ns) (ys ++ ms) (us ++ ns) zs)
+    (append_assoc vs gs gt ∙ ap (λ (zs : List ℕ). vs ++ zs) f)
+
+records_with : (s : Side) (l : ℕ) (o : Option BearerConfig) (told : List Record) (xs ys us vs : List ℕ) (c : Checking)
+    → Sizes c → l ≤ 10 → queue_at s l c ≡ queue_with o xs ys us vs
+    → queue_at s l (all_records told c)
+    ≡ queue_with o (xs ++ lengths_on l (events_of s told)) (ys ++ lens_looped s l told)
+    (us ++ lengths_on l (events_of s told)) (vs ++ lens_looped s l told)
+records_with s l o [] xs ys us vs c size low e =
+    e ∙ more_with o [] [] xs ys us vs
+    ∙ ap (λ (zs : List ℕ). queue_with o (xs ++ []) (ys ++ zs) (us ++ []) (vs ++ zs)) (sym (no_more s l))
+records_with s l o (one ∷ told) xs ys us vs c size low e =
+    let ns = lengths_on l (event_of s one) in
+    let ms = lens_looped s l (one ∷ []) in
+    records_with s l o told (xs ++ ns) (ys ++ ms) (us ++ ns) (vs ++ ms) (record_told one c) (record_sizes one c size)
+    low (record_at s one l c size low ∙ ap (heard s l one) e ∙ more_with o ns ms xs ys us vs)
+    ∙ joined_with o ns (lengths_on l (events_of s told)) ms (lens_looped s l told) (lens_looped s l (one ∷ told))
+    (lengths_on l (events_of s (one ∷ told))) xs ys us vs (told_step s l one told) (looped_step s l one told)
+
 -- ---- a line
 
 begun_of : (k : Kind) (a b : Leaving) → begun_as k (queue_of None a b) ≡ queue_as k a b
@@ -170,7 +227,6 @@ record Kept (past : List Group) : Type 0 where
   size : Sizes (all_checked past)
   at : (s : Side) (l : ℕ) → l ≤ 10 → queue_at s l (all_checked past) ≡ queue_for s l past
   forged : (all_checked past).forged ≡ is_forged past
-  looped : (all_checked past).looped ≡ []
 
 events_append : (s : Side) (xs ys : List Record) → events_of s (xs ++ ys) ≡ events_of s xs ++ events_of s ys
 events_append s [] ys = refl
@@ -185,10 +241,18 @@ told_is s l g past =
     sym (flat_map-append (length_in l) (events_of s (history past)) (events_of s g.events))
     ∙ ap (lengths_on l) (sym (events_append s (history past) (group_records g)))
 
-since_is : (b : Bool) (before now : List (List ℕ))
-    → (if b then [] else lens before) ++ lens now ≡ lens ((if b then [] else before) ++ now)
-since_is true before now = refl
-since_is false before now = sym (map-append (λ sdu. length sdu) before now)
+given_is : (before handed looped : List (List ℕ))
+    → (lens before ++ lens handed) ++ lens looped ≡ lens (before ++ (handed ++ looped))
+given_is before handed looped =
+    append_assoc (lens before) (lens handed) (lens looped)
+    ∙ ap (λ (ns : List ℕ). lens before ++ ns) (sym (map-append (λ sdu. length sdu) handed looped))
+    ∙ sym (map-append (λ sdu. length sdu) before (handed ++ looped))
+
+since_is : (b : Bool) (before handed looped : List (List ℕ))
+    → ((if b then [] else lens before) ++ lens handed) ++ lens looped
+    ≡ lens ((if b then [] else before) ++ (handed ++ looped))
+since_is true before handed looped = sym (map-append (λ sdu. length sdu) handed looped)
+since_is false before handed looped = given_is before handed looped
 
 judged_at : (s : Side) (l : ℕ) (c : Checking) → queue_at s l (judged c) ≡ queue_at s l c
 judged_at Nb l c = refl
@@ -201,52 +265,58 @@ judged_sizes c size Ue = size Ue
 abbrev begun_by : Group → List Group → Checking
 begun_by g past = after_line g.line (all_checked past)
 
+-- behind the SDU of its line, and then behind its records
+abbrev given_by_line : Group → List Group → Checking
+given_by_line g past = released (left_of g.events (submitted_by g.line)) (begun_by g past)
+
 abbrev told_by_group : Group → List Group → Checking
-told_by_group g past = checked g.events (begun_by g past)
+told_by_group g past = all_records g.events (given_by_line g past)
+
+next_is : (g : Group) (past : List Group) → all_checked (g ∷ past) ≡ judged (told_by_group g past)
+next_is g past = ap judged (settles_first g.events (begun_by g past))
+
+given_sizes : (g : Group) (past : List Group) → Kept past → Sizes (given_by_line g past)
+given_sizes g past k =
+    released_sizes (left_of g.events (submitted_by g.line)) (begun_by g past)
+    (line_sizes g.line (all_checked past) k.size)
 
 told_sizes : (g : Group) (past : List Group) → Kept past → Sizes (told_by_group g past)
-told_sizes g past k = checked_sizes g.events (begun_by g past) (line_sizes g.line (all_checked past) k.size)
+told_sizes g past k = records_sizes g.events (given_by_line g past) (given_sizes g past k)
 
-loops_left : (g : Group) (past : List Group) → Kept past → (told_by_group g past).looped ≡ loops_told g.events
-loops_left g past k =
-    (checked_else g.events (begun_by g past)).looped
-    ∙ ap (λ (ss : List Submitted). ss ++ loops_told g.events)
-    ((line_else g.line (all_checked past)).looped ∙ k.looped)
-
-told_at : (s : Side) (l : ℕ) (g : Group) (past : List Group) → ComesNew g.line past → Kept past → l ≤ 10
-    → queue_at s l (told_by_group g past)
-    ≡ queue_with (config_of l (g ∷ past)) (lengths_on l (events_of s (history (g ∷ past)))) (lens (submitted s l past))
-    (left_since s l (g ∷ past)) (in_life g.line (lens (submitted_since s l past)))
-told_at s l g past new k low =
-    checked_at s g.events l (begun_by g past) (line_sizes g.line (all_checked past) k.size) low
-    ∙ ap (all_told (lengths_on l (events_of s g.events)))
+given_at : (s : Side) (l : ℕ) (g : Group) (past : List Group) → ComesNew g.line past → Kept past → l ≤ 10
+    → queue_at s l (given_by_line g past)
+    ≡ queue_with (config_of l (g ∷ past)) (lengths_on l (events_of s (history past)))
+    (lens (submitted s l past) ++ lens_handed s l g.line g.events) (in_life g.line (left_since s l past))
+    (in_life g.line (lens (submitted_since s l past)) ++ lens_handed s l g.line g.events)
+given_at s l g past new k low =
+    own_at s g.line g.events l (begun_by g past) (line_sizes g.line (all_checked past) k.size) low
+    ∙ ap (all_submitted (lens_handed s l g.line g.events))
     (line_at s g.line l (all_checked past) k.size low ∙ ap (queue_by l g.line) (k.at s l low)
     ∙ line_with l g.line past new (lengths_on l (events_of s (history past))) (lens (submitted s l past))
     (left_since s l past) (lens (submitted_since s l past)))
-    ∙ all_told_with (config_of l (g ∷ past)) (lengths_on l (events_of s g.events))
-    (lengths_on l (events_of s (history past))) (lens (submitted s l past))
-    (in_life g.line (left_since s l past)) (in_life g.line (lens (submitted_since s l past)))
-    ∙ ap (λ (ns : List ℕ). queue_with (config_of l (g ∷ past)) ns (lens (submitted s l past))
-    (left_since s l (g ∷ past)) (in_life g.line (lens (submitted_since s l past)))) (told_is s l g past)
+    ∙ all_given_with (config_of l (g ∷ past)) (lens_handed s l g.line g.events)
+    (lengths_on l (events_of s (history past))) (lens (submitted s l past)) (in_life g.line (left_since s l past))
+    (in_life g.line (lens (submitted_since s l past)))
 
 ends_at : (s : Side) (l : ℕ) (g : Group) (past : List Group) → ComesNew g.line past → Kept past → l ≤ 10
-    → queue_at s l (released (told_by_group g past)) ≡ queue_for s l (g ∷ past)
+    → queue_at s l (told_by_group g past) ≡ queue_for s l (g ∷ past)
 ends_at s l g past new k low =
-    released_at s l g.line g.events (told_by_group g past) (told_sizes g past k) low
-    (checked_else g.events (begun_by g past)).opened (loops_left g past k)
-    ∙ ap (all_submitted (sdus_given s l g.line g.events)) (told_at s l g past new k low)
-    ∙ all_given_with (config_of l (g ∷ past)) (sdus_given s l g.line g.events)
-    (lengths_on l (events_of s (history (g ∷ past)))) (lens (submitted s l past))
-    (left_since s l (g ∷ past)) (in_life g.line (lens (submitted_since s l past)))
-    ∙ ap (λ (ns : List ℕ). queue_with (config_of l (g ∷ past)) (lengths_on l (events_of s (history (g ∷ past)))) ns
-    (left_since s l (g ∷ past))
-    (in_life g.line (lens (submitted_since s l past)) ++ sdus_given s l g.line g.events))
-    (sym (map-append (λ sdu. length sdu) (submitted s l past)
-    (handed_in s l (part_of_line g.line) g.events ++ looped_at s l g.events)))
-    ∙ ap (λ (ns : List ℕ). queue_with (config_of l (g ∷ past)) (lengths_on l (events_of s (history (g ∷ past))))
+    let o = config_of l (g ∷ past) in
+    let handed = handed_in s l (part_of_line g.line) g.events in
+    let looped = looped_at s l g.events in
+    let before = lens (submitted s l past) in
+    let since = in_life g.line (lens (submitted_since s l past)) in
+    records_with s l o g.events (lengths_on l (events_of s (history past))) (before ++ lens handed)
+    (in_life g.line (left_since s l past)) (since ++ lens handed) (given_by_line g past) (given_sizes g past k) low
+    (given_at s l g past new k low)
+    ∙ ap (λ (ns : List ℕ). queue_with o ns ((before ++ lens handed) ++ lens looped) (left_since s l (g ∷ past))
+    ((since ++ lens handed) ++ lens looped)) (told_is s l g past)
+    ∙ ap (λ (ns : List ℕ). queue_with o (lengths_on l (events_of s (history (g ∷ past)))) ns
+    (left_since s l (g ∷ past)) ((since ++ lens handed) ++ lens looped))
+    (given_is (submitted s l past) handed looped)
+    ∙ ap (λ (ns : List ℕ). queue_with o (lengths_on l (events_of s (history (g ∷ past))))
     (lens (submitted s l (g ∷ past))) (left_since s l (g ∷ past)) ns)
-    (since_is (is_handover g.line) (submitted_since s l past)
-    (handed_in s l (part_of_line g.line) g.events ++ looped_at s l g.events))
+    (since_is (is_handover g.line) (submitted_since s l past) handed looped)
 
 first_at : (s : Side) (l : ℕ) → l ≤ 10 → queue_at s l nothing_checked ≡ no_bearer
 first_at Nb l low = get_or-replicate 11 l no_bearer no_bearer (omega (arith, low))
@@ -257,17 +327,19 @@ first_sizes Nb = refl
 first_sizes Ue = refl
 
 kept : (past : List Group) → BearersAreNew past → Kept past
-kept [] new = record { size = first_sizes; at = first_at; forged = refl; looped = refl }
+kept [] new = record { size = first_sizes; at = first_at; forged = refl }
 kept (g ∷ past) new =
     let k = kept past new.1 in
     let c = told_by_group g past in
+    let next = next_is g past in
     record {
-      size = judged_sizes (released c) (released_sizes c (told_sizes g past k));
-      at = λ s l low. judged_at s l (released c) ∙ ends_at s l g past new.0 k low;
+      size = subst Sizes (sym next) (judged_sizes c (told_sizes g past k));
+      at = λ s l low. ap (queue_at s l) next ∙ judged_at s l c ∙ ends_at s l g past new.0 k low;
       forged =
-          (released_else c).forged ∙ (checked_else g.events (begun_by g past)).forged
+          ap (λ (d : Checking). d.forged) next
+          ∙ (records_else g.events (given_by_line g past)).forged
+          ∙ (releases (left_of g.events (submitted_by g.line)) (begun_by g past)).forged
           ∙ ap (λ (b : Bool). forges g.line || b) (forged_else g.line (all_checked past) ∙ k.forged);
-      looped = (released_else c).looped;
     }
 
 -- ---- whether each queue is right
@@ -354,16 +426,20 @@ low_channel l config (g ∷ past) lay e =
 
 -- ---- one more group
 
-rights : (g : Group) (past : List Group) → (released (told_by_group g past)).right ≡ (all_checked past).right
+rights : (g : Group) (past : List Group) → (told_by_group g past).right ≡ (all_checked past).right
 rights g past =
-    (released_else (told_by_group g past)).right ∙ (checked_else g.events (begun_by g past)).right
-    ∙ (line_else g.line (all_checked past)).right
+    (records_else g.events (given_by_line g past)).right
+    ∙ (releases (left_of g.events (submitted_by g.line)) (begun_by g past)).right
+    ∙ line_right g.line (all_checked past)
 
 right_is : (g : Group) (past : List Group) → Kept (g ∷ past)
     → (all_checked (g ∷ past)).right
     ≡ ((all_checked past).right && (is_forged (g ∷ past) || are_right (all_checked (g ∷ past))))
 right_is g past k =
-    ap (λ (b : Bool). b && ((all_checked (g ∷ past)).forged || are_right (all_checked (g ∷ past)))) (rights g past)
+    let next = next_is g past in
+    ap (λ (d : Checking). d.right) next
+    ∙ ap (λ (d : Checking). (told_by_group g past).right && (d.forged || are_right d)) (sym next)
+    ∙ ap (λ (b : Bool). b && ((all_checked (g ∷ past)).forged || are_right (all_checked (g ∷ past)))) (rights g past)
     ∙ ap (λ (b : Bool). (all_checked past).right && (b || are_right (all_checked (g ∷ past)))) k.forged
 
 unforged : (a b : Bool) → a ≡ false → (a || b) ≡ true → b ≡ true

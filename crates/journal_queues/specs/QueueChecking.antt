@@ -1,7 +1,7 @@
 -- What is kept of a journal while the SDUs that leave its queues are checked, and how each line and
 -- record changes it.
-use Rattle.std.specs.Prelude.{ℕ, Bool, true, false, ◌&&◌, ◌||◌, List, [], ◌∷◌, ◌++◌, length, map}
-use Rattle.std.specs.Prelude.{Option, Some, None, replicate, slice_index_or, slice_set}
+use Rattle.std.specs.Prelude.{ℕ, Bool, true, false, ◌&&◌, ◌||◌, if◌then◌else◌, List, [], ◌∷◌}
+use Rattle.std.specs.Prelude.{length, map, Option, Some, None, replicate, slice_index_or, slice_set}
 use Rattle.l2_types.specs.declared.side.Side.{Side}
 use Rattle.l2_types.specs.declared.side.Side.TheVariants.{Nb, Ue}
 use Rattle.bearer_types.specs.declared.event.Event.{Event}
@@ -12,6 +12,7 @@ use Rattle.air_record.specs.declared.record.Record.{Record}
 use Rattle.air_record.specs.declared.record.Record.TheVariants as records
 use Rattle.air_text.specs.Groups.{Group}
 use Rattle.promises.specs.Delivery.{forges}
+use Rattle.promises.specs.Flows.{refuses}
 use Rattle.journal_queues.specs.declared.checker.Submitted.{Submitted}
 use Rattle.journal_queues.specs.Leaving.{Queue, no_bearer, queue_told, queue_given, handed_over}
 use Rattle.journal_queues.specs.Leaving.{begun_as, is_queue_right}
@@ -36,9 +37,8 @@ pub record Checking : Type 0 where
   pub right : Bool
   -- a block came that neither end built
   pub forged : Bool
-  -- the SDU of the group's line, and those that the test loop submits behind it
-  pub opened : Option Submitted
-  pub looped : List Submitted
+  -- the SDU of the group's line, until it is submitted or refused
+  pub submitted : Option Submitted
 
 abbrev pub nothing_checked : Checking
 nothing_checked = record {
@@ -46,13 +46,34 @@ nothing_checked = record {
   ue = no_channels;
   right = true;
   forged = false;
-  opened = None;
-  looped = [];
+  submitted = None;
 }
 
 abbrev pub changed : Side → ℕ → (Queue → Queue) → Checking → Checking
 changed Nb lcid f c = record c { nb = changed_on lcid f c.nb }
 changed Ue lcid f c = record c { ue = changed_on lcid f c.ue }
+
+-- ---- an SDU is submitted
+
+abbrev pub given : Submitted → Checking → Checking
+given s c = changed s.side s.lcid (queue_given s.len) c
+
+-- The SDU of a `submit` line is submitted with its line, before the records of its group, unless a
+-- `refused` record of its side and channel stands directly behind the line; a `refused` record
+-- elsewhere says nothing. So what becomes of it is told by the first record of the group, or by its
+-- end where it has none.
+
+-- what is left to be submitted by the record directly behind the line
+abbrev pub unrefused : Record → Option Submitted → Option Submitted
+unrefused one None = None
+unrefused one (Some s) = if refuses s.side s.lcid one then None else Some s
+
+abbrev pub submits_own : Option Submitted → Checking → Checking
+submits_own None c = c
+submits_own (Some s) c = given s c
+
+abbrev pub released : Option Submitted → Checking → Checking
+released sdu c = submits_own sdu (record c { submitted = None })
 
 -- ---- a record
 
@@ -61,23 +82,21 @@ after_event side (Take lcid count len) c = changed side lcid (queue_told len) c
 after_event side (Discard lcid len) c = changed side lcid (queue_told len) c
 after_event side event c = c
 
--- the loop stands at the terminal
-abbrev pub loop_gives : ℕ → List ℕ → Submitted
-loop_gives lcid octets = record { side = Ue; lcid = lcid; len = length octets }
+-- the test loop stands at the terminal
+abbrev pub record_told : Record → Checking → Checking
+record_told (records.Of side event) c = after_event side event c
+record_told (records.Looped lcid octets) c = changed Ue lcid (queue_given (length octets)) c
+record_told one c = c
 
 abbrev pub after_record : Record → Checking → Checking
-after_record (records.Of side event) c = after_event side event c
-after_record (records.Looped lcid octets) c =
-    record c { looped = c.looped ++ loop_gives lcid octets ∷ [] }
-after_record (records.Refused side lcid why) c = record c { opened = None }
-after_record one c = c
+after_record one c = record_told one (released (unrefused one c.submitted) c)
 
 -- ---- a line
 
-abbrev pub opened_by : Line → Option Submitted
-opened_by (lines.Submit side lcid octets) =
+abbrev pub submitted_by : Line → Option Submitted
+submitted_by (lines.Submit side lcid octets) =
     Some (record { side = side; lcid = lcid; len = length octets })
-opened_by line = None
+submitted_by line = None
 
 abbrev pub queues_by : Line → Checking → Checking
 queues_by (lines.Bearer config options) c =
@@ -87,34 +106,20 @@ queues_by (lines.Handover user rrc integrity) c =
     record c { nb = map handed_over c.nb; ue = map handed_over c.ue }
 queues_by line c = c
 
-abbrev pub opened_with : Line → Checking → Checking
-opened_with line c = record c { opened = opened_by line; forged = forges line || c.forged }
+abbrev pub begun_with : Line → Checking → Checking
+begun_with line c = record c { submitted = submitted_by line; forged = forges line || c.forged }
 
 abbrev pub after_line : Line → Checking → Checking
-after_line line c = opened_with line (queues_by line c)
+after_line line c = begun_with line (queues_by line c)
 
--- ---- the end of its group: what it submits
-
-abbrev pub given : Submitted → Checking → Checking
-given s c = changed s.side s.lcid (queue_given s.len) c
-
-abbrev pub given_first : Option Submitted → Checking → Checking
-given_first None c = c
-given_first (Some s) c = given s c
-
-abbrev pub all_given : List Submitted → Checking → Checking
-all_given [] c = c
-all_given (s ∷ ss) c = all_given ss (given s c)
-
-abbrev pub released : Checking → Checking
-released c = all_given c.looped (given_first c.opened (record c { opened = None; looped = [] }))
+-- ---- the end of its group
 
 abbrev pub judged : Checking → Checking
 judged c =
     record c { right = c.right && (c.forged || (all_right c.nb && all_right c.ue)) }
 
 abbrev pub after_group : Checking → Checking
-after_group c = judged (released c)
+after_group c = judged (released c.submitted c)
 
 -- ---- a journal, group by group
 

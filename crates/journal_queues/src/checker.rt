@@ -1,16 +1,16 @@
 // The checker: a journal's lines and records, one by one.
 ghost use Rattle.std.specs.Prelude.{◌≡◌, OnOk};
 ghost use Rattle.promises.specs.Delivery.{forges};
-ghost use Rattle.journal_queues.specs.QueueChecking.{opened_by};
+ghost use Rattle.promises.specs.Flows.{refuses};
+ghost use Rattle.journal_queues.specs.QueueChecking.{submitted_by, unrefused};
 
 use crate::channels::{self, Channels};
 use air_record::{Line, Record};
 use bearer_types::{BearerConfig, Event};
-use l2_bits::{Items, NoMemory};
+use l2_bits::NoMemory;
 use l2_types::Side;
 use std::alloc::Global;
 use std::marker::Model;
-use std::mem;
 
 // An SDU of so many octets, on a side's channel.
 #[derive(Clone, Copy, Drop)]
@@ -31,8 +31,8 @@ fn forges(line: &Line) -> bool
 }
 
 // The SDU of a line.
-fn opened_by(line: &Line) -> Option<Submitted>
-    ensures { result ≡ opened_by line.now }
+fn submitted_by(line: &Line) -> Option<Submitted>
+    ensures { result ≡ submitted_by line.now }
 {
     match line {
         Line::Submit { side, lcid, octets } => Some(Submitted {
@@ -44,11 +44,31 @@ fn opened_by(line: &Line) -> Option<Submitted>
     }
 }
 
+// Whether a record refuses the SDU of a line, directly behind it.
+fn refuses(one: &Record, sdu: &Submitted) -> bool
+    ensures { result ≡ refuses sdu.now.side sdu.now.lcid one.now }
+{
+    match one {
+        Record::Refused { side, lcid, .. } => *side == sdu.side && *lcid == sdu.lcid,
+        _ => false,
+    }
+}
+
+// What the record directly behind a line leaves of the line's SDU.
+fn unrefused(one: &Record, sdu: Option<Submitted>) -> Option<Submitted>
+    ensures { result ≡ unrefused one.now sdu }
+{
+    let sdu = sdu?;
+    if refuses(one, &sdu) {
+        return None;
+    }
+    Some(sdu)
+}
+
 /// A checker of the SDUs that leave the queues of bearers without acknowledgement: a journal's
 /// lines and records go in one by one.
 ///
-/// It takes memory for the lengths of the SDUs that wait, and within a group for those of the SDUs
-/// that the test loop submits.
+/// It takes memory for the lengths of the SDUs that wait.
 #[derive(Drop)]
 pub struct QueueChecker {
     alloc: Global,
@@ -56,8 +76,7 @@ pub struct QueueChecker {
     ue: Channels,
     right: bool,
     forged: bool,
-    opened: Option<Submitted>,
-    looped: Items<Submitted>,
+    submitted: Option<Submitted>,
 }
 
 impl Model for QueueChecker {
@@ -70,16 +89,15 @@ impl Model for QueueChecker {
       ue = c.ue.items;
       right = c.right;
       forged = c.forged;
-      opened = c.opened;
-      looped = c.looped;
+      submitted = c.submitted;
     } };
 }
 
 impl QueueChecker {
     ghost use Rattle.journal_queues.specs.Leaving.{queue_told};
     ghost use Rattle.journal_queues.specs.QueueChecking.{nothing_checked, changed, after_line};
-    ghost use Rattle.journal_queues.specs.QueueChecking.{queues_by, after_record, after_event};
-    ghost use Rattle.journal_queues.specs.QueueChecking.{given, given_first, all_given, released};
+    ghost use Rattle.journal_queues.specs.QueueChecking.{queues_by, after_record, record_told};
+    ghost use Rattle.journal_queues.specs.QueueChecking.{after_event, given, submits_own};
     ghost use Rattle.journal_queues.specs.QueueChecking.{after_group};
 
     /// Before the first line. It takes no memory.
@@ -92,8 +110,7 @@ impl QueueChecker {
             ue: channels::no_channels(alloc),
             right: true,
             forged: false,
-            opened: None,
-            looped: Items::new(alloc),
+            submitted: None,
         }
     }
 
@@ -102,7 +119,7 @@ impl QueueChecker {
         ensures { self.new ≡ after_line line.now self.old }
     {
         self.change(line);
-        self.opened = opened_by(line);
+        self.submitted = submitted_by(line);
         self.forged = forges(line) || self.forged;
     }
 
@@ -110,19 +127,9 @@ impl QueueChecker {
     pub fn see(&mut self, one: &Record) -> Result<(), NoMemory>
         ensures { OnOk result (self.new ≡ after_record one.now self.old) }
     {
-        match one {
-            Record::Of { side, event } => self.happen(*side, event),
-            Record::Looped { lcid, octets } => self.looped.push(Submitted {
-                side: Side::Ue,
-                lcid: *lcid,
-                len: octets.as_slice().len() as u64,
-            }),
-            Record::Refused { .. } => {
-                self.opened = None;
-                Ok(())
-            }
-            _ => Ok(()),
-        }
+        let sdu = unrefused(one, self.submitted.take());
+        self.submit_own(sdu)?;
+        self.tell_record(one)
     }
 
     /// The group has ended: with the next `line` record, the first `sum`, or the journal. Behind an
@@ -130,7 +137,8 @@ impl QueueChecker {
     pub fn end_line(&mut self) -> Result<(), NoMemory>
         ensures { OnOk result (self.new ≡ after_group self.old) }
     {
-        self.release()?;
+        let sdu = self.submitted.take();
+        self.submit_own(sdu)?;
         let right = channels::are_right(&self.nb) && channels::are_right(&self.ue);
         self.right = self.right && (self.forged || right);
         Ok(())
@@ -163,6 +171,18 @@ impl QueueChecker {
         }
     }
 
+    fn tell_record(&mut self, one: &Record) -> Result<(), NoMemory>
+        ensures { OnOk result (self.new ≡ record_told one.now self.old) }
+    {
+        match one {
+            Record::Of { side, event } => self.happen(*side, event),
+            Record::Looped { lcid, octets } => {
+                channels::submit(&mut self.ue, *lcid, octets.as_slice().len() as u64)
+            }
+            _ => Ok(()),
+        }
+    }
+
     fn happen(&mut self, side: Side, event: &Event) -> Result<(), NoMemory>
         ensures { OnOk result (self.new ≡ after_event side event.now self.old) }
     {
@@ -191,31 +211,13 @@ impl QueueChecker {
         }
     }
 
-    fn submit_first(&mut self, sdu: Option<Submitted>) -> Result<(), NoMemory>
-        ensures { OnOk result (self.new ≡ given_first sdu self.old) }
+    // The SDU of the group's line is submitted, where one is left.
+    fn submit_own(&mut self, sdu: Option<Submitted>) -> Result<(), NoMemory>
+        ensures { OnOk result (self.new ≡ submits_own sdu self.old) }
     {
         match sdu {
             Some(sdu) => self.submit(sdu),
             None => Ok(()),
         }
-    }
-
-    fn submit_all(&mut self, mut sdus: Items<Submitted>) -> Result<(), NoMemory>
-        ensures { OnOk result (self.new ≡ all_given sdus self.old) }
-    {
-        while let Some(sdu) = sdus.pop_front() {
-            self.submit(sdu)?;
-        }
-        Ok(())
-    }
-
-    // What a group submits waits behind its records, of which one may refuse the SDU of its line.
-    fn release(&mut self) -> Result<(), NoMemory>
-        ensures { OnOk result (self.new ≡ released self.old) }
-    {
-        let opened = self.opened.take();
-        let looped = mem::replace(&mut self.looped, Items::new(self.alloc));
-        self.submit_first(opened)?;
-        self.submit_all(looped)
     }
 }

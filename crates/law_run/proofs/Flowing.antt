@@ -1,8 +1,9 @@
 -- Through every line since its bearers came the steps of a channel go on, with what is submitted and what is told.
 use Rattle.std.proofs.Common.{◌≡◌, ◌≤◌, ℕ, zero, suc, ◌==◌, Bool, true, false, ◌||◌, if◌then◌else◌, Option, Some, None}
 use Rattle.std.proofs.Common.{List, [], ◌∷◌, ◌++◌, map, append-nil, append_assoc, refl, ap, sym, subst, ◌∙◌}
-use Rattle.std.specs.Prelude.{option_map}
+use Rattle.std.specs.Prelude.{◌&&◌, not, option_map}
 use Rattle.std.specs.List.{filter}
+use Rattle.std.proofs.lemmas.Bool.{eq-eqb}
 use Rattle.std.proofs.lemmas.List.{map-append}
 use Rattle.std.proofs.lemmas.List.Elements.{filter-append}
 use Rattle.air_link.specs.Draining.{drain_tti, carried, receivers_expire, is_drained}
@@ -94,10 +95,12 @@ submit_handed None Nb Nb n lcid octets = refl
 submit_handed None Nb Ue n lcid octets = refl
 submit_handed None Ue Nb n lcid octets = refl
 submit_handed None Ue Ue n lcid octets = refl
-submit_handed (Some why) Nb Nb n lcid octets = refl
+submit_handed (Some why) Nb Nb n lcid octets =
+    ap (λ (b : Bool). if not b && lcid == n then octets ∷ [] else []) (eq-eqb lcid lcid refl)
 submit_handed (Some why) Nb Ue n lcid octets = refl
 submit_handed (Some why) Ue Nb n lcid octets = refl
-submit_handed (Some why) Ue Ue n lcid octets = refl
+submit_handed (Some why) Ue Ue n lcid octets =
+    ap (λ (b : Bool). if not b && lcid == n then octets ∷ [] else []) (eq-eqb lcid lcid refl)
 
 -- how a drain ends is told of no end
 unlooped_end : (side : Side) (n : ℕ) (said : List Record) (done : ℕ)

@@ -49,6 +49,7 @@ pub mod Taking
 pub mod Queueing
 pub mod Losses
 pub mod Silent
+pub mod AnyOrder
 pub mod RightAir
 pub mod ShownAtOnce
 pub mod RightForm

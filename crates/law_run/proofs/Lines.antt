@@ -1,8 +1,9 @@
 -- What a line adds to the counts of a link, and what it tells.
 use Rattle.std.proofs.Common.{◌≡◌, ℕ, ◌+◌, ◌==◌, Bool, true, false, cond, List, [], ◌∷◌, ◌++◌, length, append-nil, refl}
 use Rattle.std.proofs.Common.{ap, sym, arith, subst, ◌∙◌}
-use Rattle.std.specs.Prelude.{Option, Some, None, if◌then◌else◌, replicate, ◌||◌}
+use Rattle.std.specs.Prelude.{Option, Some, None, if◌then◌else◌, replicate, not, ◌&&◌, ◌||◌}
 use Rattle.std.specs.List.{filter, list_any}
+use Rattle.std.proofs.lemmas.Bool.{eq-eqb}
 use Rattle.std.proofs.lemmas.List.Elements.{filter-append}
 use Rattle.air_link.specs.Lines.{submitting}
 use Rattle.air_link.specs.Link.{Link}
@@ -110,12 +111,14 @@ one_if false octets = refl
 
 nb_handed : (lcid : ℕ) (octets : List ℕ) (why : Option NoPlace) (k : ℕ)
     → length (handed_in Nb k (Submits Nb lcid octets) (refusals Nb lcid why)) ≡ accepted lcid why k
-nb_handed lcid octets (Some why) k = refl
+nb_handed lcid octets (Some why) k =
+    ap (λ (b : Bool). length (cond (not b && lcid == k) (octets ∷ []) [])) (eq-eqb lcid lcid refl)
 nb_handed lcid octets None k = one_if (lcid == k) octets
 
 ue_handed : (lcid : ℕ) (octets : List ℕ) (why : Option NoPlace) (k : ℕ)
     → length (handed_in Ue k (Submits Ue lcid octets) (refusals Ue lcid why)) ≡ accepted lcid why k
-ue_handed lcid octets (Some why) k = refl
+ue_handed lcid octets (Some why) k =
+    ap (λ (b : Bool). length (cond (not b && lcid == k) (octets ∷ []) [])) (eq-eqb lcid lcid refl)
 ue_handed lcid octets None k = one_if (lcid == k) octets
 
 pub no_air : (why : Option NoPlace) (side : Side) (lcid : ℕ) → filter is_of_air (refusals side lcid why) ≡ []

@@ -38,8 +38,9 @@ use Rattle.promises.specs.Parts.{Part, Submits, Passes, Drains, Rests, part_of_l
 use Rattle.promises.specs.Blocks.{kinds}
 use Rattle.promises.specs.Records.{is_of_air}
 use Rattle.promises.specs.Telling.{SendersTellUnless, RoundTells, DrainTells, LineTells, LinesTell, channels}
-use Rattle.promises.specs.RightAir.{is_of_time, Ttis, HasItsTtis, BeginsAtZero, AirIsRight}
+use Rattle.promises.specs.RightAir.{FliesInDrain, is_of_time, Ttis, HasItsTtis, BeginsAtZero, AirIsRight}
 use Rattle.promises.proofs.ShownBlocks.{AllShown, block_shows}
+use Rattle.law_run.proofs.AnyOrder.{in_any_order}
 use Rattle.law_run.specs.Order.{KeepsOrder}
 
 abbrev AllZero : List Record → Type 0
@@ -50,7 +51,7 @@ zero_append [] b p q = q
 zero_append (one ∷ a) b p q = (p.0, zero_append a b p.1 q)
 
 abbrev Drained : ℕ → ℕ → List Record → Type 0
-Drained grant n told = Ttis (FliesIntact n grant) n told
+Drained grant n told = Ttis (FliesInDrain grant n) n told
 
 -- ---- records that begin no TTI and no line, with so many of the air at most
 
@@ -437,7 +438,8 @@ drains_so grant size (suc n) t told s either h flown =
         second = filter is_of_air x;
         told_are = refl;
         is_first = refl;
-        is_second = subst (λ (l : List Record). FliesIntact t grant l) (sym both.0) flown.is_first;
+        is_second = in_any_order false t grant intact grant intact (filter is_of_air x)
+            (subst (λ (l : List Record). FliesIntact t grant l) (sym both.0) flown.is_first);
       };
       is_second = drains_so grant size n (t + 1) h.second s either h.is_second
           (subst (λ (l : List Record). InTurn (λ m. FliesIntact m grant) (t + 1) n l) (sym both.1) flown.is_second);
@@ -482,6 +484,7 @@ tti_right : (t up_grant down_grant : ℕ) (up down : Outcome) (kinds : List (Opt
 tti_right t up_grant down_grant up down kinds c events h flown =
     let o = tti_opens t kinds c events h in
     let is = opened_is 5 t events o in
+    let flies = subst (λ (l : List Record). MayFly t up_grant up down_grant down l) (ap (filter is_of_air) is) flown in
     record {
       ttis_are = record {
         first = records.Tti t ∷ [];
@@ -489,8 +492,10 @@ tti_right t up_grant down_grant up down kinds c events h flown =
         told_are = ap (filter is_of_time) is
             ∙ ap (λ (l : List Record). records.Tti t ∷ l) (time_of_air o.second o.is_second.plain);
         is_first = refl;
-        is_second = subst (λ (l : List Record). MayFly t up_grant up down_grant down l) (ap
-            (filter is_of_air) is) flown;
+        is_second = (
+          flies.asleep,
+          in_any_order flies.asleep t up_grant up down_grant down (filter is_of_air o.second) flies.flies,
+        );
       };
       zero_is = subst (λ (l : List Record). AllZero l) (sym is) (tt, o.is_second.zero_is);
     }

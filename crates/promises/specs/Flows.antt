@@ -2,7 +2,7 @@
 -- delivered, in order.
 use Rattle.std.specs.Prelude.{ℕ, List, map, Bool, true, false, ◌==◌, not, ◌&&◌, if◌then◌else◌, []}
 use Rattle.std.specs.Prelude.{◌∷◌, ◌++◌}
-use Rattle.std.specs.List.{filter, list_any}
+use Rattle.std.specs.List.{filter}
 use Rattle.air_record.specs.declared.record.Record.{Record}
 use Rattle.promises.specs.Records.{is_looped, sdu_of, ups_in}
 use Rattle.l2_types.specs.declared.side.Side.{Side}
@@ -16,14 +16,21 @@ use Rattle.air_record.specs.declared.record.Record.TheVariants as records
 abbrev pub loops_in : ℕ → List Record → List (List ℕ)
 loops_in lcid told = map sdu_of (filter (is_looped lcid) told)
 
--- the SDU of a `submit` line, where no record tells that it is refused
-abbrev pub is_refused : Record → Bool
-is_refused (records.Refused side lcid why) = true
-is_refused one = false
+-- a record refuses an SDU of a side, on a channel
+abbrev pub refuses : Side → ℕ → Record → Bool
+refuses side lcid (records.Refused s l why) = is_same s side && l == lcid
+refuses side lcid one = false
 
+abbrev pub is_refused_at_once : Side → ℕ → List Record → Bool
+is_refused_at_once side lcid [] = false
+is_refused_at_once side lcid (one ∷ told) = refuses side lcid one
+
+-- the SDU of a `submit` line is submitted with its line, before the records of its group, unless a
+-- `refused` record of its side and channel stands directly behind the line; a `refused` record
+-- elsewhere says nothing
 abbrev pub handed_in : Side → ℕ → Part → List Record → List (List ℕ)
 handed_in side lcid (Submits s l octets) told =
-    if is_same s side && (not (list_any is_refused told) && l == lcid) then octets ∷ [] else []
+    if is_same s side && (not (is_refused_at_once s l told) && l == lcid) then octets ∷ [] else []
 handed_in side lcid other told = []
 
 -- the test loop stands at the terminal

@@ -1,19 +1,50 @@
--- When what a journal tells of the air is right, whoever made it (TS 36.321 5.3.2, 5.4.2;
+-- When what a journal tells of the air is right, whoever made it (TS 36.321 5.3.2, 5.4.2, 5.7;
 -- docs/formats/JOURNAL.md): a `tti` line has exactly one TTI, a `drain` line any number, and other
--- lines none; TTIs are numbered on from 0; behind each number stands what flies in that TTI, block
--- by block as grants and outcomes have it; and each block, its feedback and what comes of it are
--- those of HARQ. How many TTIs a drain has, and how it ends, isn't judged.
-use Rattle.std.specs.Prelude.{ℕ, Bool, true, List, [], ◌∷◌, ◌≡◌, ◌≤◌}
-use Rattle.std.specs.List.{filter, AllByRecursion}
+-- lines none; TTIs are numbered on from 0; behind each number stands what flies in that TTI, in
+-- each direction as grant and outcome have it; and each block, its feedback and what comes of it
+-- are those of HARQ. Which direction of a TTI is told first, and when in it that the terminal
+-- sleeps, isn't judged; nor is how many TTIs a drain has, and how it ends.
+use Rattle.std.specs.Prelude.{ℕ, Bool, true, false, List, [], ◌∷◌, ◌≡◌, ◌≤◌}
+use Rattle.std.specs.List.{filter, list_all, AllByRecursion}
+use Rattle.air_record.specs.declared.line.Outcome.{Outcome}
 use Rattle.air_record.specs.declared.record.Record.{Record}
 use Rattle.air_record.specs.declared.record.Record.TheVariants as records
+use Rattle.air_record.specs.Outcomes.{missed, intact}
 use Rattle.air_text.specs.Groups.{Group}
-use Rattle.law_words.specs.Sequences.{SequencesOf, just, ◌then◌}
+use Rattle.bearer_types.specs.Sides.{is_same_way}
+use Rattle.law_words.specs.Sequences.{SequencesOf, just, any, ◌then◌}
+use Rattle.mac_pdu.specs.declared.item.Direction.{Direction}
+use Rattle.mac_pdu.specs.declared.item.Direction.TheVariants.{Down, Up}
 use Rattle.promises.specs.Parts.{Part, Submits, Passes, Drains, Rests, part_of_line}
 use Rattle.promises.specs.Records.{is_of_air}
-use Rattle.promises.specs.Air.{MayFly, FliesIntact, InTurn, ttis}
+use Rattle.promises.specs.Air.{sleeping, InTurn, ttis}
+use Rattle.promises.specs.Flights.{IsDown, IsUp}
+use Rattle.promises.specs.Sleeps.{is_sleep}
 use Rattle.promises.specs.Heard.{visits}
 use Rattle.promises.specs.Carried.{IsCarried}
+
+-- ---- what flies in a TTI
+
+-- a block of a direction, or what comes of one
+abbrev pub is_toward : Direction → Record → Bool
+is_toward way (records.Block direction process fresh version octets) = is_same_way way direction
+is_toward way (records.Air direction what heard) = is_same_way way direction
+is_toward way one = false
+
+-- the terminal sleeps or doesn't (5.7), and what is told of the downlink (5.3.2) and of the uplink
+-- (5.4.2), each by itself, is as grant and outcome have it; a terminal that sleeps misses both
+pub record FliesInAnyOrder (asleep : Bool) (t up_grant : ℕ) (up : Outcome) (down_grant : ℕ)
+    (down : Outcome) (told : List Record) : Type 0 where
+  pub of_air : list_all is_of_air told ≡ true
+  pub sleeps : filter is_sleep told ≡ sleeping asleep
+  pub down_is : IsDown t down_grant (missed asleep down) (filter (is_toward Down) told)
+  pub up_is : IsUp t up_grant (missed asleep up) (filter (is_toward Up) told)
+
+-- in a drain nobody sleeps, and every block arrives intact
+abbrev pub FliesInDrain : ℕ → ℕ → List Record → Type 0
+FliesInDrain grant t told = FliesInAnyOrder false t grant intact grant intact told
+
+-- ---- the TTIs of a line
 
 -- what is told of TTIs: their numbers, and the air in them; a line would begin another group
 abbrev pub is_of_time : Record → Bool
@@ -29,10 +60,12 @@ Ttis Flown t = just (records.Tti t) then Flown
 abbrev pub HasItsTtis : ℕ → Part → List Record → Type 0
 HasItsTtis t (Submits side lcid octets) told = told ≡ []
 HasItsTtis t (Passes up_grant up down_grant down) told =
-    Ttis (MayFly t up_grant up down_grant down) t told
+    Ttis (any (λ asleep. FliesInAnyOrder asleep t up_grant up down_grant down)) t told
 HasItsTtis t (Drains grant) told =
-    (count : ℕ) × InTurn (λ n. Ttis (FliesIntact n grant) n) t count told
+    (count : ℕ) × InTurn (λ n. Ttis (FliesInDrain grant n) n) t count told
 HasItsTtis t Rests told = told ≡ []
+
+-- ---- a group
 
 -- the first sending of a block has version 0
 abbrev pub BeginsAtZero : Record → Type 0
