@@ -17,7 +17,10 @@ use Rattle.air_record.specs.declared.record.State.{State}
 use Rattle.air_text.specs.Groups.{Group}
 use Rattle.promises.specs.Configs.{config_of}
 use Rattle.journal_form.specs.Lines.{HasLayout}
-use Rattle.journal_edge.specs.EdgeChecking.{Beside, is_state, all_beside}
+use Rattle.journal_flows.specs.Accounts.{Keeping}
+use Rattle.journal_given.specs.Giving.{Giving}
+use Rattle.journal_takes.specs.FlowTakes.{FlowTakes}
+use Rattle.journal_edge.specs.EdgeChecking.{is_state, all_beside}
 use Rattle.journal_check.specs.declared.fault.CheckFault.{CheckFault}
 use Rattle.journal_check.specs.declared.fault.CheckFault.TheVariants.{Refused, NoMemory}
 use Rattle.journal_check.specs.declared.fault.CheckWhy.{CheckWhy}
@@ -25,19 +28,21 @@ use Rattle.journal_check.specs.declared.fault.CheckWhy.TheVariants as words
 use Rattle.journal_check.specs.declared.limits.TheConstants.{MOST_RECORDS}
 use Rattle.journal_check.specs.Checks.{IsTextOf, TellsRecords, AdmitsNext}
 use Rattle.journal_check.specs.Checked.{CheckerState, is_open, ends_groups, ends_group, groups_ended, AreRuled, HasFed}
-use Rattle.journal_check.specs.Checked.{judging_in, GroupHolds, IsBehindFault, IsOutOfPlace, Closes}
+use Rattle.journal_check.specs.Checked.{judging_in, GroupHolds, IsBehindFault, Closes}
 use Rattle.journal_check.specs.Grouped.{GroupedRecords, no_records, record_count, group_begun, with_event, with_record}
 use Rattle.journal_check.specs.Grouped.{has_any, record_fault}
-use Rattle.journal_check.specs.Judging.{Judging, nothing_judged, judging_line, judging_record, judging_within}
+use Rattle.journal_check.specs.Judging.{Judging, nothing_judged, judging_line, judging_record}
 use Rattle.journal_check.specs.Judging.{judging_end, all_judging, word_of}
-use Rattle.journal_check.specs.LineRules.{keeps_rules, has_bearer}
-use Rattle.journal_check.specs.Soundness.{never, Holds, group_words, AllHold, is_told, are_long, sum_fault_by}
+use Rattle.journal_check.specs.LineRules.{has_bearer}
+use Rattle.journal_check.specs.Soundness.{may_take, Holds, group_words, AllHold, sum_fault_by}
 use Rattle.journal_check.specs.Soundness.{sum_fault}
 use Rattle.journal_check.specs.States.{OrderState, is_running, is_set}
 use Rattle.journal_check.specs.Steps.{Finds, is_ended_by, ended_if, word_if, HasRecordLayout, with_told, state_word}
 use Rattle.journal_check.specs.Steps.{sum_word, Stands, TakesText}
-use Rattle.journal_check.proofs.Folds.{records_more, edge_is}
+use Rattle.journal_check.proofs.Folds.{records_more}
 use Rattle.journal_check.proofs.Losses.{state_is}
+use Rattle.journal_check.proofs.MayTakes.{says}
+use Rattle.journal_check.proofs.Shared.{all_shared}
 use Rattle.journal_check.proofs.Standing.{Follows, follows, any-more}
 use Rattle.journal_check.proofs.Verdicts.{all_right, first_fails}
 
@@ -176,7 +181,7 @@ sum_fed r c one o ends h group tells =
 sum_by : (o : Option BearerConfig) (direction : Direction) (lcid : ℕ) (state : State) (past : List Group)
     → AreRuled past → config_of lcid past ≡ o
     → (if not (is_some o) then Some words.Sent
-    else if is_state direction lcid state (all_beside never past).kept then None else Some words.Edge)
+    else if is_state direction lcid state (all_beside (may_take past) past).kept then None else Some words.Edge)
     ≡ sum_fault_by o (sender_of direction) lcid state past
 sum_by None direction lcid state past ruled is = refl
 sum_by (Some config) direction lcid state past ruled is =
@@ -189,10 +194,11 @@ state_told : (r : GroupedRecords) (c : CheckerState) (direction : Direction) (lc
     ≡ sum_fault_by (config_of lcid r.groups) (sender_of direction) lcid state r.groups
 state_told r c direction lcid state ruled bearer judging =
     ap (λ (b : Bool). if not b then Some words.Sent
-    else if is_state direction lcid state c.judging.edge.kept then None else Some words.Edge) bearer
-    ∙ ap (λ (b : Beside). if not (has_bearer lcid r.groups) then Some words.Sent
-    else if is_state direction lcid state b.kept then None else Some words.Edge)
-    (ap (λ (j : Judging). j.edge) judging ∙ edge_is r.groups)
+    else if is_state direction lcid state c.judging.sends.given.kept then None else Some words.Edge) bearer
+    ∙ ap (λ (k : Keeping). if not (has_bearer lcid r.groups) then Some words.Sent
+    else if is_state direction lcid state k then None else Some words.Edge)
+    (ap (λ (j : Judging). j.sends.given.kept) judging
+    ∙ ap (λ (g : Giving FlowTakes). g.kept) (all_shared (may_take r.groups) r.groups (says r.groups)).given)
     ∙ sum_by (config_of lcid r.groups) direction lcid state r.groups ruled refl
 
 sum_told : (r : GroupedRecords) (c : CheckerState) (one : Record) (o : OrderState) → HasFed r c

@@ -3,12 +3,11 @@ use Rattle.std.proofs.Common.{◌≡◌, ◌==◌, ◌≤◌, ◌⊎◌, inl, in
 use Rattle.std.proofs.Common.{[], ◌∷◌, length, codes, arith, ap, refl, subst, Option, Some, None, Result, Ok, Err}
 use Rattle.std.proofs.Common.{slice_index}
 use Rattle.std.proofs.lemmas.Bool.Decides.{nat_tests}
-use Rattle.std.proofs.lemmas.Bool.{eqb-true}
 use Rattle.std.specs.Str.{bytes_eq}
 use Rattle.l2_types.specs.declared.channel.Kind.{Kind}
 use Rattle.l2_types.specs.declared.channel.Kind.TheVariants.{Tm, Srb, Um, Am}
 use Rattle.bearer_types.specs.declared.config.BearerConfig.{BearerConfig}
-use Rattle.bearer_types.specs.Configs.{IsConfig, IsChannelOf, AreRlcBits, ArePdcpBits}
+use Rattle.bearer_types.specs.Configs.{IsChannelOf, AreRlcBits, ArePdcpBits}
 use Rattle.air_record.specs.declared.line.Line.{Line}
 use Rattle.air_record.specs.declared.line.Line.TheVariants as lines
 use Rattle.air_record.specs.declared.record.Record.{Record}

@@ -4,6 +4,8 @@ pub mod Standing
 pub mod Layouts
 pub mod Folds
 pub mod MayTakes
+pub mod Alike
+pub mod Shared
 pub mod ToldFolds
 pub mod Ruled
 pub mod Verdicts

@@ -1,28 +1,22 @@
 -- Whether RLC may take anything as t-PollRetransmit expires is told by a journal as it is gathered,
 -- and so the accounts beside what PDCP gives RLC are those of the journal.
-use Rattle.std.proofs.Common.{◌≡◌, ◌==◌, Bool, true, false, List, [], ◌∷◌, ◌++◌, length, Option, Some, None, refl}
+use Rattle.std.proofs.Common.{◌≡◌, ◌==◌, Bool, true, false, List, [], ◌∷◌, ◌++◌, length, Option, Some, refl}
 use Rattle.std.proofs.Common.{ap, sym, ◌∙◌, arith, if◌then◌else◌}
 use Rattle.std.proofs.lemmas.Bool.{eq-eqb, ne_eqb}
 use Rattle.std.proofs.lemmas.List.{append_assoc, length-append}
-use Rattle.l2_types.specs.declared.side.Side.{Side}
-use Rattle.bearer_types.specs.declared.event.Event.{Event}
-use Rattle.bearer_types.specs.declared.event.Event.TheVariants as events
-use Rattle.bearer_types.specs.Sides.{sender_of}
 use Rattle.air_record.specs.declared.record.Record.{Record}
-use Rattle.air_record.specs.declared.record.Record.TheVariants as records
 use Rattle.air_text.specs.Groups.{Group}
-use Rattle.promises.specs.Records.{is_got}
 use Rattle.journal_takes.specs.FlowTakes.{FlowTakes}
 use Rattle.journal_flows.specs.Gathering.{MayTake}
 use Rattle.journal_flows.specs.Accounts.{Keeping, after_line as line_kept, after_record as record_kept}
 use Rattle.journal_flows.specs.Accounts.{after_group as group_kept, after_records as records_kept}
 use Rattle.journal_flows.specs.Accounts.{kept_within, all_kept}
-use Rattle.journal_given.specs.declared.given.Submission.{Submission}
 use Rattle.journal_given.specs.Supplies.{Keeper, histories, accounts}
-use Rattle.journal_given.specs.Giving.{Giving, each_from, landed_on, may_take, happens, tells, with_kept, after_record}
-use Rattle.journal_given.specs.Giving.{after_line, submits_last, hands_on, none_submitted, after_group, after_records}
-use Rattle.journal_given.specs.Giving.{given_within, all_given, group_at, behind_records, may_take_in, may_take_by}
-use Rattle.journal_given.proofs.Images.{giving_image, may_image, within_image, given_image}
+use Rattle.journal_given.specs.Giving.{Giving, may_take, settled, after_record, after_line, after_records}
+use Rattle.journal_given.specs.Giving.{given_within, all_given, group_at, behind_records, before_record, may_take_in}
+use Rattle.journal_given.specs.Giving.{may_take_by}
+use Rattle.journal_given.proofs.Images.{giving_image, settled_image, may_image, within_image, given_image}
+use Rattle.journal_given.proofs.Ties.{record_keeps, group_keeps}
 use Rattle.journal_check.specs.Soundness.{may_take as by_journal}
 
 -- ---- what is gathered behind records, of which the latest stands first
@@ -63,7 +57,7 @@ begun_image before now past =
 
 abbrev pub SaysIn : MayTake → Group → List Group → Type 0
 SaysIn may now past = (before : List Record) (one : Record)
-    → may past before one ≡ may_take accounts one (behind_records accounts before (begun now past))
+    → may past before one ≡ may_take accounts one (before_record accounts one before (begun now past))
 
 abbrev pub Says : MayTake → List Group → Type 0
 Says may [] = Unit {0}
@@ -88,8 +82,10 @@ says_behind journal newer [] is = tt
 says_behind journal newer (now ∷ past) is = (
   λ before one. ap (λ (o : Option Group). may_take_in histories o past before one)
       (ap (group_at (length past)) is ∙ group_there newer now past)
-      ∙ may_image one (behind_records histories before (after_line histories now.line (all_given histories past)))
-      ∙ ap (may_take accounts one) (begun_image before now past),
+      ∙ may_image one (before_record histories one before (after_line histories now.line (all_given histories past)))
+      ∙ ap (may_take accounts one)
+      (settled_image one (behind_records histories before (after_line histories now.line (all_given histories past)))
+      ∙ ap (settled accounts one) (begun_image before now past)),
   says_behind journal (newer ++ now ∷ []) past (is ∙ sym (append_assoc newer (now ∷ []) past)),
 )
 
@@ -98,32 +94,14 @@ says past = says_behind past [] past refl
 
 -- ---- the accounts
 
-happens_keeps : (side : Side) (event : Event) (g : Giving FlowTakes) → (happens accounts side event g).kept ≡ g.kept
-happens_keeps side (events.Take lcid count len) g = refl
-happens_keeps side (events.Report lcid fms bitmap) g = refl
-happens_keeps side (events.Discard lcid len) g = refl
-happens_keeps side event g = refl
-
-tells_keeps : (one : Record) (g : Giving FlowTakes) → (tells accounts one g).kept ≡ g.kept
-tells_keeps (records.Of side event) g = happens_keeps side event g
-tells_keeps (records.Looped lcid octets) g = refl
-tells_keeps (records.Refused side lcid why) g = refl
-tells_keeps (records.Air direction what heard) g = by (is_got what)
-  where
-    by : (b : Bool) → (if b then record g {
-      bearers = each_from (landed_on accounts (sender_of direction) g.kept) 0 g.bearers;
-    } else g).kept ≡ g.kept
-    by true = refl
-    by false = refl
-tells_keeps one g = refl
-
 -- a record behind others
 pub kept_more : (may : MayTake) (now : Group) (past : List Group) (before : List Record) (one : Record)
     (g : Giving FlowTakes) → SaysIn may now past → g ≡ behind_records accounts before (begun now past)
     → (after_record accounts one g).kept ≡ record_kept (may past before one) one g.kept
 kept_more may now past before one g says is =
-    tells_keeps one (with_kept (record_kept (may_take accounts one g) one g.kept) g)
-    ∙ ap (λ (more : Bool). record_kept more one g.kept) (ap (may_take accounts one) is ∙ sym (says before one))
+    record_keeps accounts one g
+    ∙ ap (λ (more : Bool). record_kept more one g.kept)
+    (ap (λ (x : Giving FlowTakes). may_take accounts one (settled accounts one x)) is ∙ sym (says before one))
 
 records_kept_so : (may : MayTake) (now : Group) (past : List Group) → SaysIn may now past → (before told : List Record)
     (g : Giving FlowTakes) → g ≡ behind_records accounts before (begun now past)
@@ -133,19 +111,6 @@ records_kept_so may now past says before (one ∷ told) g is =
     records_kept_so may now past says (one ∷ before) told (after_record accounts one g)
     (ap (after_record accounts one) is)
     ∙ ap (λ (k : Keeping). records_kept may past (one ∷ before) told k) (kept_more may now past before one g says is)
-
-last_keeps : (o : Option Submission) (g : Giving FlowTakes) → (submits_last accounts o g).kept ≡ g.kept
-last_keeps None g = refl
-last_keeps (Some s) g = refl
-
-hand_keeps : (b : Bool) (g : Giving FlowTakes) → (hands_on accounts b g).kept ≡ g.kept
-hand_keeps true g = refl
-hand_keeps false g = refl
-
-group_keeps : (g : Giving FlowTakes) → (after_group accounts g).kept ≡ group_kept g.kept
-group_keeps g =
-    hand_keeps g.hands_over (none_submitted (submits_last accounts g.submitted (with_kept (group_kept g.kept) g)))
-    ∙ last_keeps g.submitted (with_kept (group_kept g.kept) g)
 
 inside_by : (may : MayTake) (now : Group) (past : List Group) → SaysIn may now past
     → (all_given accounts past).kept ≡ all_kept may past
@@ -158,7 +123,7 @@ pub kept_behind : (may : MayTake) (past : List Group) → Says may past
     → (all_given accounts past).kept ≡ all_kept may past
 kept_behind may [] says = refl
 kept_behind may (now ∷ past) says =
-    group_keeps (given_within accounts now (all_given accounts past))
+    group_keeps accounts (given_within accounts now (all_given accounts past))
     ∙ ap (λ (k : Keeping). group_kept k) (inside_by may now past says.0 (kept_behind may past says.1))
 
 pub kept_inside : (may : MayTake) (now : Group) (past : List Group) → Says may (now ∷ past)

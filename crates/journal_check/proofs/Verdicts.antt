@@ -30,12 +30,13 @@ use Rattle.journal_edge.proofs.Exact.{verdict_exact as edge_exact}
 use Rattle.journal_check.specs.declared.fault.CheckWhy.{CheckWhy}
 use Rattle.journal_check.specs.declared.fault.CheckWhy.TheVariants as words
 use Rattle.journal_check.specs.Checked.{AreRuled}
-use Rattle.journal_check.specs.Judging.{Judging, all_judging, is_sent, is_formed, flows_word, word_of}
-use Rattle.journal_check.specs.Soundness.{may_take, never, IsSent, IsFormed, Holds, group_words, AllHold, FailsFirst}
-use Rattle.journal_check.proofs.Folds.{air_is, form_is, queues_is, given_is, sent_is, edge_is}
+use Rattle.journal_check.specs.Judging.{Judging, all_judging, is_sent, is_formed, word_of}
+use Rattle.journal_check.specs.Soundness.{may_take, IsSent, IsFormed, Holds, group_words, AllHold, FailsFirst}
+use Rattle.journal_check.proofs.Folds.{air_is, form_is, queues_is}
 use Rattle.journal_check.proofs.MayTakes.{says}
 use Rattle.journal_check.proofs.Ruled.{layouts, bearers_new}
-use Rattle.journal_check.proofs.ToldFolds.{failure_is, status_is, delivered_is}
+use Rattle.journal_check.proofs.Shared.{all_shared}
+use Rattle.journal_check.proofs.ToldFolds.{failure_is, status_is, delivered_is, sent_is}
 
 -- ---- the first of some words that isn't right
 
@@ -92,7 +93,7 @@ abbrev right_of : Judging → CheckWhy → Bool
 right_of j words.Sent = is_sent j.sends
 right_of j words.Carried = j.blocks.air.right
 right_of j words.Delivered = j.flows.delivered.right
-right_of j words.Edge = j.edge.checked.right
+right_of j words.Edge = j.edge.right
 right_of j words.Failure = j.flows.failure.right
 right_of j words.Status = j.flows.status.right
 right_of j words.Form = is_formed j
@@ -105,7 +106,7 @@ turn false x y z h = refl
 word_is : (j : Judging) → word_of j ≡ first_wrong (right_of j) group_words
 word_is j =
     turn (is_sent j.sends) (Some words.Sent) _ _ (turn j.blocks.air.right (Some words.Carried) _ _
-    (turn j.flows.delivered.right (Some words.Delivered) _ _ (turn j.edge.checked.right (Some words.Edge) _ _
+    (turn j.flows.delivered.right (Some words.Delivered) _ _ (turn j.edge.right (Some words.Edge) _ _
     (turn j.flows.failure.right (Some words.Failure) _ _ (turn j.flows.status.right (Some words.Status) _ _
     (turn (is_formed j) (Some words.Form) None None refl))))))
 
@@ -120,13 +121,13 @@ along right here there P same exact =
 sent_exact : (past : List Group) → AreRuled past → (is_sent (all_judging past).sends ≡ true) ↔ IsSent past
 sent_exact past ruled =
     let s = (all_judging past).sends in
-    let takes = along (λ (g : given.Giving FlowTakes). g.right) s.given (given.all_given accounts past) _
-    (given_is past)
+    let takes = along (λ (right : Bool). right) s.given.right (given.all_given accounts past).right _
+    (ap (λ (g : given.Giving FlowTakes). g.right) (all_shared (may_take past) past (says past)).given)
     (given_exact past) in
     let leave = along (λ (c : queues.Checking). c.right) s.queues (queues.all_checked past) _ (queues_is past)
     (queues_exact past (layouts past ruled) (bearers_new past ruled)) in
     let carry = along (λ (c : sent.Sending SentOctets). c.sent) s.sent (sent.all_sending pdus.accounts accounts past) _
-    (sent_is past) (sent_verdicts past).0 in (
+    (sent_is (may_take past) past (says past)) (sent_verdicts past).0 in (
       λ h.
           let both = and_parts s.given.right (s.queues.right && s.sent.sent) h in
           let rest = and_parts s.queues.right s.sent.sent both.1 in
@@ -141,7 +142,8 @@ formed_exact past =
     let j = all_judging past in
     let blocks = along form.is_right j.blocks.form (form.all_checked past) _ (form_is past) (form_exact past) in
     let shapes = along (λ (c : sent.Sending SentOctets). c.shaped) j.sends.sent
-    (sent.all_sending pdus.accounts accounts past) _ (sent_is past) (sent_verdicts past).1 in (
+    (sent.all_sending pdus.accounts accounts past) _ (sent_is (may_take past) past (says past))
+    (sent_verdicts past).1 in (
       λ h.
           let both = and_parts (form.is_right j.blocks.form) j.sends.sent.shaped h in
           record { blocks = blocks.0 both.0; shapes = shapes.0 both.1 },
@@ -155,8 +157,9 @@ exact past ruled words.Carried = along (λ (c : air.Checking). c.right) (all_jud
 exact past ruled words.Delivered = along (λ (c : delivered.Checking). c.right) (all_judging past).flows.delivered
     (delivered.all_checked (may_take past) past) _ (delivered_is (may_take past) past (says past))
     (delivered_exact (may_take past) past)
-exact past ruled words.Edge = along (λ (b : edge.Beside). b.checked.right) (all_judging past).edge
-    (edge.all_beside never past) _ (edge_is past) (edge_exact never past)
+exact past ruled words.Edge = along (λ (c : edge.EdgeChecking). c.right) (all_judging past).edge
+    (edge.all_beside (may_take past) past).checked _ (all_shared (may_take past) past (says past)).edge
+    (edge_exact (may_take past) past)
 exact past ruled words.Failure = along (λ (c : failure.Checking). c.right) (all_judging past).flows.failure
     (failure.all_checked (may_take past) past) _ (failure_is (may_take past) past (says past))
     (failure_exact (may_take past) past)

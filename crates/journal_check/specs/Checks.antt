@@ -1,6 +1,6 @@
 -- What is answered to the next text of a journal (docs/laws/PROGRAM.md): the first that is true of
 -- `records`, `text`, `forged`, `order` and `rules`.
-use Rattle.std.specs.Prelude.{ℕ, ◌≡◌, ◌⊎◌, ◌+◌, ◌<◌, ◌≤◌, List, length, None, Some}
+use Rattle.std.specs.Prelude.{ℕ, ◌≡◌, ◌+◌, ◌<◌, ◌≤◌, List, length, None, Some}
 use Rattle.std.specs.Prelude.{Result, Ok, Err, is_some, nat_lt, false}
 use Rattle.std.specs.List.{list_all, list_any}
 use Rattle.std.specs.Str.{bytes_eq}
@@ -20,8 +20,7 @@ use Rattle.journal_check.specs.Grouped.{GroupedRecords, record_count, with_recor
 use Rattle.journal_check.specs.Grouped.{record_fault}
 use Rattle.journal_check.specs.LineRules.{is_early, is_harq, is_bsr, is_keys, has_line, has_bearer}
 use Rattle.journal_text.specs.Records.{HasText}
-use Rattle.journal_check.specs.States.{LinesState, OrderState, ReaderState, is_set, is_given}
-use Rattle.journal_check.specs.States.{is_above}
+use Rattle.journal_check.specs.States.{LinesState, OrderState, is_set, is_given, is_above}
 
 -- ---- a text
 
@@ -65,11 +64,6 @@ pub record TellsRecords (r : GroupedRecords) (o : OrderState) : Type 0 where
   pub ended : o.ended ≡ has_any r.sums
   pub lines : TellsLines r.groups o.lines
 
--- nothing was refused
-pub record HasRead (r : GroupedRecords) (reader : ReaderState) : Type 0 where
-  pub order : TellsRecords r reader.order
-  pub fault : reader.fault ≡ None
-
 -- ---- the next record
 
 -- a record that may stand behind others is kept, with what tells of all; another is refused
@@ -78,24 +72,3 @@ AdmitsNext r one (Ok _) new = (record_fault r one ≡ None) × TellsRecords (wit
 AdmitsNext r one (Err (Refused at why)) new =
     (at ≡ record_count r + 1) × (record_fault r one ≡ Some why)
 AdmitsNext r one (Err NoMemory) new = Unit {0}
-
--- why a text can't be the next: it has no record, or one that may not stand there
-abbrev pub IsRefused : GroupedRecords → List ℕ → CheckWhy → Type 0
-IsRefused r text why = HasNoRecord (record_count r) text why
-    ⊎ ((one : Record) × (record_count r < MOST_RECORDS) × IsTextOf text one
-    × (record_fault r one ≡ Some why))
-
-abbrev pub IsFaultAt : GroupedRecords → List ℕ → CheckFault → Type 0
-IsFaultAt r text (Refused at why) = (at ≡ record_count r + 1) × IsRefused r text why
-IsFaultAt r text NoMemory = Unit {0}
-
--- the next record, which is kept
-abbrev pub TakesNext : GroupedRecords → List ℕ → Result Record CheckFault → ReaderState → Type 0
-TakesNext r text (Ok one) new = (record_count r < MOST_RECORDS) × IsTextOf text one
-    × (record_fault r one ≡ None) × HasRead (with_record one r) new
-TakesNext r text (Err fault) new = IsFaultAt r text fault
-
--- and a fault is kept
-abbrev pub FeedsNext : GroupedRecords → List ℕ → Result Record CheckFault → ReaderState → Type 0
-FeedsNext r text (Ok one) new = TakesNext r text (Ok one) new
-FeedsNext r text (Err fault) new = IsFaultAt r text fault × (new.fault ≡ Some fault)

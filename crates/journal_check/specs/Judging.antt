@@ -1,7 +1,7 @@
 -- What is kept of a journal while it is judged: the state of each checker, and how each line, each
 -- other record and the end of a group change it (docs/CHECKING.md).
-use Rattle.std.specs.Prelude.{Bool, true, false, not, ◌&&◌, if◌then◌else◌, List, [], ◌∷◌, Option}
-use Rattle.std.specs.Prelude.{None, Some}
+use Rattle.std.specs.Prelude.{Bool, not, ◌&&◌, if◌then◌else◌, List, [], ◌∷◌, Option, None}
+use Rattle.std.specs.Prelude.{Some}
 use Rattle.air_record.specs.declared.line.Line.{Line}
 use Rattle.air_record.specs.declared.record.Record.{Record}
 use Rattle.air_text.specs.Groups.{Group}
@@ -63,10 +63,11 @@ sends_line line s = record {
   queues = queues.after_line line s.queues;
 }
 
+-- what is sent by what is given before the record
 abbrev pub sends_record : Record → Sends → Sends
-sends_record one s = record {
+sends_record one s = let g = given.settled supplies.accounts one s.given in record {
   given = given.after_record supplies.accounts one s.given;
-  sent = sent.after_record pdus.accounts supplies.accounts one s.given s.sent;
+  sent = sent.after_record pdus.accounts supplies.accounts one g s.sent;
   queues = queues.after_record one s.queues;
 }
 
@@ -76,6 +77,10 @@ sends_end s = let g = given.after_group supplies.accounts s.given in record {
   sent = sent.after_group pdus.accounts g s.sent;
   queues = queues.after_group s.queues;
 }
+
+-- of the accounts of flows SDUs were taken
+abbrev pub with_kept : Keeping → Sends → Sends
+with_kept k s = record s { given = given.with_kept k s.given }
 
 -- ---- what acknowledged flows tell and hand up, by their accounts
 
@@ -125,20 +130,21 @@ flows_ended k f = record {
 abbrev pub flows_end : Keeping → Keeping → Flows → Flows
 flows_end k k' f = flows_ended k' (flows_ending k f)
 
--- ---- all; what unacknowledged flows hand up is judged beside accounts of its own
+-- ---- all, beside the accounts of flows, of which the SDUs are taken that unacknowledged ones hand
+-- up
 
 pub record Judging : Type 0 where
   pub blocks : Blocks
   pub sends : Sends
   pub flows : Flows
-  pub edge : edge.Beside
+  pub edge : edge.EdgeChecking
 
 abbrev pub nothing_judged : Judging
 nothing_judged = record {
   blocks = no_blocks;
   sends = no_sends;
   flows = no_flows;
-  edge = edge.all_beside (λ past before one. false) [];
+  edge = edge.nothing_checked;
 }
 
 abbrev pub judging_line : Line → Judging → Judging
@@ -146,23 +152,23 @@ judging_line line j = record {
   blocks = blocks_line line j.blocks;
   sends = sends_line line j.sends;
   flows = flows_line line j.flows;
-  edge = edge.beside_line line j.edge;
+  edge = edge.after_line line j.edge;
 }
 
 abbrev pub judging_record : Record → Judging → Judging
 judging_record one j = let s = sends_record one j.sends in record {
   blocks = blocks_record one j.blocks;
-  sends = s;
+  sends = with_kept (edge.leaves one s.given.kept j.edge) s;
   flows = flows_record s.given.kept one j.flows;
-  edge = edge.beside_record false one j.edge;
+  edge = edge.after_record one s.given.kept j.edge;
 }
 
 abbrev pub judging_end : Judging → Judging
 judging_end j = let s = sends_end j.sends in record {
   blocks = blocks_end j.blocks;
-  sends = s;
+  sends = with_kept (edge.group_leaves s.given.kept j.edge) s;
   flows = flows_end j.sends.given.kept s.given.kept j.flows;
-  edge = edge.beside_end j.edge;
+  edge = edge.after_group s.given.kept j.edge;
 }
 
 -- ---- a journal, group by group, of which the newest stands first
@@ -198,5 +204,5 @@ abbrev pub word_of : Judging → Option CheckWhy
 word_of j = if not (is_sent j.sends) then Some words.Sent
     else if not j.blocks.air.right then Some words.Carried
     else if not j.flows.delivered.right then Some words.Delivered
-    else if not j.edge.checked.right then Some words.Edge
+    else if not j.edge.right then Some words.Edge
     else flows_word j

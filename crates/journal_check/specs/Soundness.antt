@@ -37,10 +37,6 @@ use Rattle.journal_check.specs.declared.fault.CheckWhy.TheVariants as words
 abbrev pub may_take : List Group → MayTake
 may_take past = may_take_by histories past
 
--- no unacknowledged flow asks for it
-abbrev pub never : MayTake
-never past before one = false
-
 -- what RLC takes and sends (TS 36.322 5.1, 5.2.1, TS 36.323 5.1.1, 5.2.1.1)
 pub record IsSent (past : List Group) : Type 0 where
   pub takes : TakesAreRight past
@@ -58,7 +54,7 @@ abbrev pub Holds : CheckWhy → List Group → Type 0
 Holds words.Sent past = IsSent past
 Holds words.Carried past = AirIsRight past
 Holds words.Delivered past = DeliveredIsRight (may_take past) past
-Holds words.Edge past = EdgeIsRight never past
+Holds words.Edge past = EdgeIsRight (may_take past) past
 Holds words.Failure past = FailureIsRight (may_take past) past
 Holds words.Status past = StatusIsRight (may_take past) past
 Holds words.Form past = IsFormed past
@@ -91,7 +87,7 @@ is_state state long = false
 -- whether they were, by what the flow tells
 abbrev pub are_long : Side → ℕ → BearerConfig → List Group → Bool
 are_long from lcid config past = is_long_in (width_of config.rlc_bits) (2 ^ config.pdcp_bits)
-    (come_in (um_flows_told never past from lcid))
+    (come_in (um_flows_told (may_take past) past from lcid))
 
 abbrev pub is_told : Kind → State → Bool → Bool
 is_told bearers.Um state long = is_state state long

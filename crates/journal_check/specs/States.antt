@@ -15,7 +15,6 @@ use Rattle.air_record.specs.declared.record.Record.{Record}
 use Rattle.air_record.specs.declared.record.Record.TheVariants as records
 use Rattle.eps_sec.specs.declared.Key.{Key}
 use Rattle.promises.specs.Delivery.{forges}
-use Rattle.journal_check.specs.declared.fault.CheckFault.{CheckFault}
 use Rattle.journal_check.specs.declared.fault.CheckWhy.{CheckWhy}
 use Rattle.journal_check.specs.declared.fault.CheckWhy.TheVariants.{Forged, Order, Rules}
 use Rattle.journal_check.specs.LineRules.{is_tm, is_fitting}
@@ -163,10 +162,3 @@ behind_record one o = behind_one o
 abbrev pub HasRecordPlace : Record → Type 0
 HasRecordPlace (records.Line number line) = HasPlace line
 HasRecordPlace one = Unit {0}
-
--- ---- texts
-
-pub record ReaderState : Type 0 where
-  pub order : OrderState
-  -- why no more is read
-  pub fault : Option CheckFault

@@ -56,7 +56,7 @@ with_told one c = with_judging (judging_record one c.judging) c
 abbrev pub state_word : Direction → ℕ → State → CheckerState → Option CheckWhy
 state_word direction lcid state c =
     if not (is_set lcid c.order.lines.bearers) then Some Sent
-    else if is_state direction lcid state c.judging.edge.kept then None
+    else if is_state direction lcid state c.judging.sends.given.kept then None
     else Some Edge
 
 abbrev pub sum_word : Record → CheckerState → Option CheckWhy

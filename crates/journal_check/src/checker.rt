@@ -27,8 +27,8 @@ fn ends_groups(one: &Record) -> bool
 /// Checks a whole journal, whoever made it, text by text: that it is sound, as
 /// `specs/Soundness.antt` says of all its groups in the terms of the standard.
 ///
-/// It takes memory for what is under way on each bearer, for the keys that lines give, and for the
-/// SDUs that unacknowledged bearers hand up; with nothing else does it grow with the journal.
+/// It takes memory for what is under way on each bearer, and for the keys that lines give; with
+/// nothing else does it grow with the journal.
 #[derive(Drop)]
 pub struct Checker {
     alloc: Global,

@@ -1,11 +1,11 @@
 ghost use Rattle.std.specs.Prelude.{◌≡◌, OnOk};
 
 use crate::blocks::Blocks;
-use crate::edge::Edge;
 use crate::fault::CheckWhy;
 use crate::sends::Sends;
 use crate::told::Flows;
 use air_record::{Line, Record, State};
+use journal_edge::{EdgeChecker, is_state};
 use l2_bits::NoMemory;
 use mac_pdu::Direction;
 use std::alloc::Global;
@@ -18,7 +18,7 @@ pub(crate) struct Judge {
     blocks: Blocks,
     sends: Sends,
     flows: Flows,
-    edge: Edge,
+    edge: EdgeChecker,
 }
 
 impl Model for Judge {
@@ -47,7 +47,7 @@ impl Judge {
             blocks: Blocks::new(alloc),
             sends: Sends::new(alloc),
             flows: Flows::new(alloc),
-            edge: Edge::new(alloc),
+            edge: EdgeChecker::new(alloc),
         }
     }
 
@@ -70,7 +70,7 @@ impl Judge {
         self.blocks.see(one)?;
         self.sends.see(one)?;
         self.flows.see(one, self.sends.flows())?;
-        self.edge.see(one)
+        self.edge.see(one, self.sends.flows_mut())
     }
 
     /// The group has ended: with the next `line` record, the first `sum`, or the journal.
@@ -81,7 +81,7 @@ impl Judge {
         self.flows.end_records(self.sends.flows());
         self.sends.end_line()?;
         self.flows.end_line(self.sends.flows())?;
-        self.edge.end_line()
+        self.edge.end_line(self.sends.flows_mut())
     }
 
     /// What isn't right behind a group, by the first word of that.
@@ -120,8 +120,8 @@ impl Judge {
 
     /// Whether the `sum` record of a flow tells truly whether its losses were short or long.
     pub fn is_state(&self, direction: Direction, lcid: u8, state: State) -> bool
-        ensures { result ≡ is_state direction lcid state self.now.edge.kept }
+        ensures { result ≡ is_state direction lcid state self.now.sends.given.kept }
     {
-        self.edge.is_state(direction, lcid, state)
+        is_state(self.sends.flows(), direction, lcid, state)
     }
 }

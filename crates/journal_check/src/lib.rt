@@ -1,17 +1,14 @@
-//! A checker of journals, whoever made them. `JournalReader` reads the record of each line, and
-//! says whether it may stand there; `Checker` says whether the whole journal is sound: that its
-//! blocks, PDUs and SDUs are those that the standard lets both ends send, carry, deliver and report
-//! (`specs/Soundness.antt`).
+//! A checker of journals, whoever made them. `Checker` reads the record of each line, says whether
+//! it may stand there, and whether the whole journal is sound: that its blocks, PDUs and SDUs are
+//! those that the standard lets both ends send, carry, deliver and report (`specs/Soundness.antt`).
 #![tactic(auto)]
 
 mod blocks;
 mod checker;
-mod edge;
 mod fault;
 mod judge;
 mod limits;
 mod order;
-mod reader;
 mod rules;
 mod sends;
 mod told;
@@ -20,4 +17,3 @@ pub use checker::Checker;
 pub use fault::{CheckFault, CheckWhy};
 pub use journal_text::{TextFault, read_text};
 pub use limits::{LONGEST_RECORD, MOST_RECORDS};
-pub use reader::JournalReader;

@@ -29,6 +29,8 @@ impl Sends {
     ghost use Rattle.journal_form.specs.Lines.{HasLayout};
     ghost use Rattle.journal_check.specs.Judging.{no_sends, sends_line, sends_record};
     ghost use Rattle.journal_check.specs.Judging.{sends_end, is_sent};
+    ghost use Rattle.journal_check.specs.Lending.{lends_flows};
+    ghost use Rattle.std.specs.Borrow.{sem};
 
     pub fn new(alloc: Global) -> Sends
         ensures { result ≡ no_sends }
@@ -55,6 +57,7 @@ impl Sends {
     pub fn see(&mut self, one: &Record) -> Result<(), NoMemory>
         ensures { OnOk result (self.new ≡ sends_record one.now self.old) }
     {
+        self.given.settle(one)?;
         self.sent.see(one, &self.given)?;
         self.given.see(one)?;
         self.queues.see(one)
@@ -74,6 +77,14 @@ impl Sends {
         ensures { result.now ≡ self.now.given.kept }
     {
         self.given.flows()
+    }
+
+    /// The accounts of flows, lent so that SDUs are taken that unacknowledged ones hand up.
+    pub fn flows_mut(&mut self) -> &mut JournalFlows
+        ensures* writes_back { sem 𝓛 (lends_flows self.entry result) }
+        ensures value { result.now ≡ self.old.given.kept }
+    {
+        self.given.flows_mut()
     }
 
     /// Whether what is sent is what its sender may send.

@@ -29,15 +29,16 @@ use Rattle.journal_given.specs.Supplies.{is_take, is_report, marked_from, is_sam
 use Rattle.journal_given.specs.Supplies.{is_right_report, has_waiting}
 use Rattle.journal_given.specs.Giving.{Giving, side_of, bearer_at, each_from, landed_on, may_take, take_right}
 use Rattle.journal_given.specs.Giving.{discard_right}
-use Rattle.journal_given.specs.Giving.{report_right, happens, with_kept, after_record, after_line, submits_last}
-use Rattle.journal_given.specs.Giving.{hands_on, none_submitted, after_group, after_records, given_within, all_given}
+use Rattle.journal_given.specs.Giving.{report_right, unrefused, submits_own, with_submitted, line_submitted, settled}
+use Rattle.journal_given.specs.Giving.{happens, with_kept, record_told, after_record, after_line, hands_on}
+use Rattle.journal_given.specs.Giving.{after_group, after_records, given_within, all_given}
 use Rattle.journal_given.specs.RightTakes.{TakeIsRight, IsSaid, ReportIsRight, DiscardIsRight, OnBearer, IsRightEvent}
 use Rattle.journal_given.specs.RightTakes.{IsRightRecord}
 use Rattle.journal_given.specs.RightTakes.{AreRightRecords, TakesAreRight}
 use Rattle.journal_given.specs.Laws.{takes_by, takes_at, AreTakesOf, TakesAreTold, VerdictIsExact}
 use Rattle.journal_given.proofs.Images.{giving_image, slot_image, at_image, within_image, given_image}
 use Rattle.journal_given.proofs.Sounds.{IsSound, AreSound, AllSound, pdu_is, report_is, takeable, at_sound}
-use Rattle.journal_given.proofs.Sounds.{record_sound}
+use Rattle.journal_given.proofs.Sounds.{settled_sound, record_sound}
 use Rattle.journal_given.proofs.Sounds.{line_sound, records_sound, given_sound}
 
 -- ---- a take
@@ -253,18 +254,17 @@ same_event side (events.Discard lcid len) g h is r =
     subst (λ bs. OnBearer (bearer_at lcid bs) side DiscardIsRight) is r
 same_event side event g h is r = tt
 
-record_exact : (one : Record) (g : Giving History) → AllSound g.bearers
-    → Judges (after_record histories one g).right g.right (IsRightRecord one g)
-record_exact (records.Of side event) g h =
+told_right : (one : Record) (g : Giving History) → AllSound g.bearers
+    → Judges (record_told histories one g).right g.right (IsRightRecord one g)
+told_right (records.Of side event) g h =
     let seen = with_kept (record_kept (may_take histories (records.Of side event) g) (records.Of side event) g.kept)
     g in
     let e = event_exact side event seen h in (
       λ a. ((e.0 a).0, same_event side event seen g refl (e.0 a).1),
       λ b. e.1 (b.0, same_event side event g seen refl b.1),
     )
-record_exact (records.Looped lcid octets) g h = with_none g.right
-record_exact (records.Refused side lcid why) g h = with_none g.right
-record_exact (records.Air direction what heard) g h = by (is_got what)
+told_right (records.Looped lcid octets) g h = with_none g.right
+told_right (records.Air direction what heard) g h = by (is_got what)
     (with_kept (record_kept (may_take histories (records.Air direction what heard) g)
     (records.Air direction what heard) g.kept) g)
   where
@@ -274,7 +274,21 @@ record_exact (records.Air direction what heard) g h = by (is_got what)
         } else g).right g.right (Unit {0})
     by true g = with_none g.right
     by false g = with_none g.right
-record_exact one g h = with_none g.right
+told_right one g h = with_none g.right
+
+own_right : (o : Option Submission) (g : Giving History) → (submits_own histories o g).right ≡ g.right
+own_right None g = refl
+own_right (Some s) g = refl
+
+settled_right : (one : Record) (g : Giving History) → (settled histories one g).right ≡ g.right
+settled_right one g = own_right (unrefused one g.submitted) (with_submitted (unrefused one g.submitted) g)
+
+record_exact : (one : Record) (g : Giving History) → AllSound g.bearers
+    → Judges (after_record histories one g).right g.right (IsRightRecord one (settled histories one g))
+record_exact one g h =
+    let same = settled_right one g in
+    let e = told_right one (settled histories one g) (settled_sound one g h) in
+    (λ a. (sym same ∙ (e.0 a).0, (e.0 a).1), λ b. e.1 (same ∙ b.0, b.1))
 
 records_exact : (told : List Record) (g : Giving History) → AllSound g.bearers
     → Judges (after_records histories told g).right g.right (AreRightRecords told g)
@@ -291,18 +305,14 @@ records_exact (one ∷ told) g h =
 line_right : (line : Line) (g : Giving History) → (after_line histories line g).right ≡ g.right
 line_right line g = refl
 
-last_right : (o : Option Submission) (g : Giving History) → (submits_last histories o g).right ≡ g.right
-last_right None g = refl
-last_right (Some s) g = refl
-
 hand_right : (b : Bool) (g : Giving History) → (hands_on histories b g).right ≡ g.right
 hand_right true g = refl
 hand_right false g = refl
 
 group_right : (g : Giving History) → (after_group histories g).right ≡ g.right
 group_right g =
-    hand_right g.hands_over (none_submitted (submits_last histories g.submitted (with_kept (group_kept g.kept) g)))
-    ∙ last_right g.submitted (with_kept (group_kept g.kept) g)
+    hand_right g.hands_over (line_submitted histories (with_kept (group_kept g.kept) g))
+    ∙ own_right g.submitted (with_kept (group_kept g.kept) g)
 
 told_exact : (past : List Group) → (all_given histories past).right ≡ true ↔ TakesAreRight past
 told_exact [] = (λ e. tt, λ h. refl)

@@ -33,9 +33,9 @@ use Rattle.journal_given.specs.Supplies.{report_gone}
 use Rattle.journal_given.specs.Supplies.{hears}
 use Rattle.journal_given.specs.Giving.{Giving, Bearers, on_side, bearer_begun, landed, bearer_at}
 use Rattle.journal_given.specs.Giving.{changed_on, each_from, landed_on, ended_on, Waits, offers, may_take, submits}
-use Rattle.journal_given.specs.Giving.{take_right, discard_right, report_right, happens, tells, with_kept, after_record}
-use Rattle.journal_given.specs.Giving.{after_line}
-use Rattle.journal_given.specs.Giving.{submits_last, hands_on, none_submitted, at_rest, after_group}
+use Rattle.journal_given.specs.Giving.{unrefused, submits_own, with_submitted, line_submitted, settled}
+use Rattle.journal_given.specs.Giving.{take_right, discard_right, report_right, happens, tells, with_kept}
+use Rattle.journal_given.specs.Giving.{record_told, after_record, after_line, hands_on, at_rest, after_group}
 use Rattle.journal_given.specs.Giving.{after_records, given_within, all_given, waits_at}
 
 -- ---- one direction
@@ -244,6 +244,19 @@ submits_image side lcid octets g =
     (changed_image side lcid (told histories (SduSubmitted octets)) (told accounts (SduSubmitted octets)) (λ s. refl)
     g.bearers)
 
+own_image : (o : Option Submission) (g : Giving History)
+    → giving_image (submits_own histories o g) ≡ submits_own accounts o (giving_image g)
+own_image None g = refl
+own_image (Some s) g = submits_image s.side s.lcid s.octets g
+
+submitted_image : (g : Giving History)
+    → giving_image (line_submitted histories g) ≡ line_submitted accounts (giving_image g)
+submitted_image g = ap (λ (x : Giving FlowTakes). with_submitted None x) (own_image g.submitted g)
+
+pub settled_image : (one : Record) (g : Giving History)
+    → giving_image (settled histories one g) ≡ settled accounts one (giving_image g)
+settled_image one g = submitted_image (with_submitted (unrefused one g.submitted) g)
+
 take_image : (side : Side) (count : Option ℕ) (len : ℕ) (o : Option (Bearer History))
     → take_right histories side count len o ≡ take_right accounts side count len (slot_image o)
 take_image side count len None = refl
@@ -298,7 +311,6 @@ tells_image : (one : Record) (g : Giving History)
     → giving_image (tells histories one g) ≡ tells accounts one (giving_image g)
 tells_image (records.Of side event) g = happens_image side event g
 tells_image (records.Looped lcid octets) g = submits_image Ue lcid octets g
-tells_image (records.Refused side lcid why) g = refl
 tells_image (records.Air direction what heard) g = by (is_got what)
   where
     by : (b : Bool)
@@ -315,12 +327,17 @@ tells_image (records.Air direction what heard) g = by (is_got what)
     by false = refl
 tells_image one g = refl
 
-record_image : (one : Record) (g : Giving History)
-    → giving_image (after_record histories one g) ≡ after_record accounts one (giving_image g)
-record_image one g =
+told_image : (one : Record) (g : Giving History)
+    → giving_image (record_told histories one g) ≡ record_told accounts one (giving_image g)
+told_image one g =
     tells_image one (with_kept (record_kept (may_take histories one g) one g.kept) g)
     ∙ ap (λ (more : Bool). tells accounts one (with_kept (record_kept more one g.kept) (giving_image g)))
     (may_image one g)
+
+record_image : (one : Record) (g : Giving History)
+    → giving_image (after_record histories one g) ≡ after_record accounts one (giving_image g)
+record_image one g =
+    told_image one (settled histories one g) ∙ ap (record_told accounts one) (settled_image one g)
 
 line_image : (line : Line) (g : Giving History)
     → giving_image (after_line histories line g) ≡ after_line accounts line (giving_image g)
@@ -331,11 +348,6 @@ line_image (lines.Bearer config options) g =
     ∙ ap (slice_set (all_images g.bearers) config.channel.lcid)
     (begun_image config.kind config.first config.pdcp_bits))
 line_image line g = refl
-
-last_image : (o : Option Submission) (g : Giving History)
-    → giving_image (submits_last histories o g) ≡ submits_last accounts o (giving_image g)
-last_image None g = refl
-last_image (Some s) g = submits_image s.side s.lcid s.octets g
 
 hand_image : (b : Bool) (g : Giving History)
     → giving_image (hands_on histories b g) ≡ hands_on accounts b (giving_image g)
@@ -348,10 +360,8 @@ hand_image false g = refl
 group_image : (g : Giving History) → giving_image (after_group histories g) ≡ after_group accounts (giving_image g)
 group_image g =
     let rest = with_kept (group_kept g.kept) g in
-    ap (λ (x : Giving FlowTakes). at_rest x) (hand_image g.hands_over
-    (none_submitted (submits_last histories g.submitted rest)))
-    ∙ ap (λ (x : Giving FlowTakes). at_rest (hands_on accounts g.hands_over (none_submitted x)))
-    (last_image g.submitted rest)
+    ap (λ (x : Giving FlowTakes). at_rest x) (hand_image g.hands_over (line_submitted histories rest))
+    ∙ ap (λ (x : Giving FlowTakes). at_rest (hands_on accounts g.hands_over x)) (submitted_image rest)
 
 records_image : (told' : List Record) (g : Giving History)
     → giving_image (after_records histories told' g) ≡ after_records accounts told' (giving_image g)

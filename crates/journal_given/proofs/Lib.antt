@@ -3,6 +3,7 @@ pub mod Marks
 pub mod Confirming
 pub mod Images
 pub mod Ties
+pub mod Taking
 pub mod Saying
 pub mod Sounds
 pub mod Exact

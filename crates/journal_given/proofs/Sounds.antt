@@ -38,8 +38,9 @@ use Rattle.journal_given.specs.Supplies.{takes_report, confirms_one, confirms_al
 use Rattle.journal_given.specs.Supplies.{is_confirmed_by, has_come, report_gone, hears, come_by, life_ended}
 use Rattle.journal_given.specs.Giving.{Giving, Bearers, on_side, bearer_begun, landed, lives_ended, bearer_at}
 use Rattle.journal_given.specs.Giving.{changed_on, each_from, landed_on, ended_on, submits, happens, tells}
-use Rattle.journal_given.specs.Giving.{with_kept, may_take, after_record, after_line, submits_last, hands_on}
-use Rattle.journal_given.specs.Giving.{none_submitted, after_group, after_records, given_within, all_given}
+use Rattle.journal_given.specs.Giving.{unrefused, submits_own, with_submitted, line_submitted, settled}
+use Rattle.journal_given.specs.Giving.{with_kept, may_take, record_told, after_record, after_line, hands_on}
+use Rattle.journal_given.specs.Giving.{after_group, after_records, given_within, all_given}
 
 -- ---- one direction
 
@@ -281,6 +282,16 @@ submits_sound side lcid octets g h =
     changed_sound side lcid (told histories (SduSubmitted octets)) (λ s. told_sound (SduSubmitted octets) s tt)
     g.bearers h
 
+own_sound : (o : Option Submission) (g : Giving History) → AllSound g.bearers
+    → AllSound (submits_own histories o g).bearers
+own_sound None g h = h
+own_sound (Some s) g h = submits_sound s.side s.lcid s.octets g h
+
+pub settled_sound : (one : Record) (g : Giving History) → AllSound g.bearers
+    → AllSound (settled histories one g).bearers
+settled_sound one g h =
+    own_sound (unrefused one g.submitted) (with_submitted (unrefused one g.submitted) g) h
+
 happens_sound : (side : Side) (event : Event) (g : Giving History) → AllSound g.bearers
     → AllSound (happens histories side event g).bearers
 happens_sound side (events.Take lcid count len) g h =
@@ -294,7 +305,6 @@ happens_sound side event g h = h
 tells_sound : (one : Record) (g : Giving History) → AllSound g.bearers → AllSound (tells histories one g).bearers
 tells_sound (records.Of side event) g h = happens_sound side event g h
 tells_sound (records.Looped lcid octets) g h = submits_sound Ue lcid octets g h
-tells_sound (records.Refused side lcid why) g h = h
 tells_sound (records.Air direction what heard) g h = by (is_got what)
   where
     by : (b : Bool) → AllSound (if b then record g {
@@ -308,9 +318,13 @@ tells_sound (records.Air direction what heard) g h = by (is_got what)
     by false = h
 tells_sound one g h = h
 
+record_told_sound : (one : Record) (g : Giving History) → AllSound g.bearers
+    → AllSound (record_told histories one g).bearers
+record_told_sound one g h = tells_sound one (with_kept (record_kept (may_take histories one g) one g.kept) g) h
+
 pub record_sound : (one : Record) (g : Giving History) → AllSound g.bearers
     → AllSound (after_record histories one g).bearers
-record_sound one g h = tells_sound one (with_kept (record_kept (may_take histories one g) one g.kept) g) h
+record_sound one g h = record_told_sound one (settled histories one g) (settled_sound one g h)
 
 pub line_sound : (line : Line) (g : Giving History) → AllSound g.bearers
     → AllSound (after_line histories line g).bearers
@@ -319,11 +333,6 @@ line_sound (lines.Bearer config options) g h =
     (kind_sound config.kind config.first config.pdcp_bits) h
 line_sound line g h = h
 
-last_sound : (o : Option Submission) (g : Giving History) → AllSound g.bearers
-    → AllSound (submits_last histories o g).bearers
-last_sound None g h = h
-last_sound (Some s) g h = submits_sound s.side s.lcid s.octets g h
-
 hand_sound : (b : Bool) (g : Giving History) → AllSound g.bearers → AllSound (hands_on histories b g).bearers
 hand_sound true g h = each_sound (ended_on histories g.kept)
     (λ lcid o. lives_sound (account_at Nb lcid g.kept.journal.flows) (account_at Ue lcid g.kept.journal.flows) o) 0
@@ -331,9 +340,8 @@ hand_sound true g h = each_sound (ended_on histories g.kept)
 hand_sound false g h = h
 
 group_sound : (g : Giving History) → AllSound g.bearers → AllSound (after_group histories g).bearers
-group_sound g h = hand_sound g.hands_over
-    (none_submitted (submits_last histories g.submitted (with_kept (group_kept g.kept) g)))
-    (last_sound g.submitted (with_kept (group_kept g.kept) g) h)
+group_sound g h = hand_sound g.hands_over (line_submitted histories (with_kept (group_kept g.kept) g))
+    (own_sound g.submitted (with_kept (group_kept g.kept) g) h)
 
 pub records_sound : (told' : List Record) (g : Giving History) → AllSound g.bearers
     → AllSound (after_records histories told' g).bearers

@@ -17,9 +17,10 @@ use Rattle.journal_flows.specs.Accounts.{after_group as group_kept, after_record
 use Rattle.journal_flows.specs.Accounts.{kept_within, all_kept}
 use Rattle.journal_given.specs.declared.given.Submission.{Submission}
 use Rattle.journal_given.specs.Supplies.{Keeper, histories, accounts}
-use Rattle.journal_given.specs.Giving.{Giving, each_from, landed_on, may_take, happens, tells, with_kept, after_record}
-use Rattle.journal_given.specs.Giving.{after_line, submits_last, hands_on, none_submitted, after_group, after_records}
-use Rattle.journal_given.specs.Giving.{given_within, all_given, group_at, behind_records, may_take_in, may_take_by}
+use Rattle.journal_given.specs.Giving.{Giving, each_from, landed_on, may_take, unrefused, submits_own}
+use Rattle.journal_given.specs.Giving.{with_submitted, line_submitted, settled, happens, tells, with_kept, after_record}
+use Rattle.journal_given.specs.Giving.{after_line, hands_on, after_group, after_records, given_within, all_given}
+use Rattle.journal_given.specs.Giving.{group_at, behind_records, before_record, may_take_in, may_take_by}
 use Rattle.journal_given.specs.Laws.{FlowsAreTied}
 use Rattle.journal_given.proofs.Images.{within_image, given_image}
 
@@ -35,7 +36,6 @@ happens_keeps k side event g = refl
 tells_keeps : {T : Type 0} (k : Keeper T) (one : Record) (g : Giving T) → (tells k one g).kept ≡ g.kept
 tells_keeps k (records.Of side event) g = happens_keeps k side event g
 tells_keeps k (records.Looped lcid octets) g = refl
-tells_keeps k (records.Refused side lcid why) g = refl
 tells_keeps k (records.Air direction what heard) g = by (is_got what)
   where
     by : (b : Bool) → (if b then record g {
@@ -45,29 +45,36 @@ tells_keeps k (records.Air direction what heard) g = by (is_got what)
     by false = refl
 tells_keeps k one g = refl
 
-record_keeps : {T : Type 0} (k : Keeper T) (one : Record) (g : Giving T)
-    → (after_record k one g).kept ≡ record_kept (may_take k one g) one g.kept
-record_keeps k one g = tells_keeps k one (with_kept (record_kept (may_take k one g) one g.kept) g)
+pub own_keeps : {T : Type 0} (k : Keeper T) (o : Option Submission) (g : Giving T)
+    → (submits_own k o g).kept ≡ g.kept
+own_keeps k None g = refl
+own_keeps k (Some s) g = refl
 
-last_keeps : {T : Type 0} (k : Keeper T) (o : Option Submission) (g : Giving T)
-    → (submits_last k o g).kept ≡ g.kept
-last_keeps k None g = refl
-last_keeps k (Some s) g = refl
+pub settled_keeps : {T : Type 0} (k : Keeper T) (one : Record) (g : Giving T) → (settled k one g).kept ≡ g.kept
+settled_keeps k one g =
+    own_keeps k (unrefused one g.submitted) (with_submitted (unrefused one g.submitted) g)
+
+pub record_keeps : {T : Type 0} (k : Keeper T) (one : Record) (g : Giving T)
+    → (after_record k one g).kept ≡ record_kept (may_take k one (settled k one g)) one g.kept
+record_keeps k one g =
+    let s = settled k one g in
+    tells_keeps k one (with_kept (record_kept (may_take k one (settled k one g)) one (settled k one g).kept) s)
+    ∙ ap (λ (j : Keeping). record_kept (may_take k one (settled k one g)) one j) (settled_keeps k one g)
 
 hand_keeps : {T : Type 0} (k : Keeper T) (b : Bool) (g : Giving T) → (hands_on k b g).kept ≡ g.kept
 hand_keeps k true g = refl
 hand_keeps k false g = refl
 
-group_keeps : {T : Type 0} (k : Keeper T) (g : Giving T) → (after_group k g).kept ≡ group_kept g.kept
+pub group_keeps : {T : Type 0} (k : Keeper T) (g : Giving T) → (after_group k g).kept ≡ group_kept g.kept
 group_keeps k g =
-    hand_keeps k g.hands_over (none_submitted (submits_last k g.submitted (with_kept (group_kept g.kept) g)))
-    ∙ last_keeps k g.submitted (with_kept (group_kept g.kept) g)
+    hand_keeps k g.hands_over (line_submitted k (with_kept (group_kept g.kept) g))
+    ∙ own_keeps k g.submitted (with_kept (group_kept g.kept) g)
 
 -- ---- where it is told so at each record of a group, and of a journal
 
 abbrev SaysWithin : {T : Type 0} → Keeper T → MayTake → Group → List Group → Type 0
 SaysWithin k may now past = (before : List Record) (one : Record)
-    → may past before one ≡ may_take k one (behind_records k before (after_line k now.line (all_given k past)))
+    → may past before one ≡ may_take k one (before_record k one before (after_line k now.line (all_given k past)))
 
 abbrev Says : {T : Type 0} → Keeper T → MayTake → List Group → Type 0
 Says k may [] = Unit {0}
@@ -81,7 +88,8 @@ records_tied k may now past says before [] g is = refl
 records_tied k may now past says before (one ∷ told) g is =
     records_tied k may now past says (one ∷ before) told (after_record k one g) (ap (after_record k one) is)
     ∙ ap (records_kept may past (one ∷ before) told) (record_keeps k one g
-    ∙ ap (λ (more : Bool). record_kept more one g.kept) (ap (may_take k one) is ∙ sym (says before one)))
+    ∙ ap (λ (more : Bool). record_kept more one g.kept)
+    (ap (λ (x : Giving _). may_take k one (settled k one x)) is ∙ sym (says before one)))
 
 within_tied : {T : Type 0} (k : Keeper T) (may : MayTake) (now : Group) (past : List Group) → SaysWithin k may now past
     → (all_given k past).kept ≡ all_kept may past

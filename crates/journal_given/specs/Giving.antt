@@ -18,6 +18,7 @@ use Rattle.air_record.specs.declared.line.Line.TheVariants as lines
 use Rattle.air_record.specs.declared.record.Record.{Record}
 use Rattle.air_record.specs.declared.record.Record.TheVariants as records
 use Rattle.air_text.specs.Groups.{Group}
+use Rattle.promises.specs.Flows.{refuses}
 use Rattle.promises.specs.Parts.{is_handover}
 use Rattle.promises.specs.Records.{is_got}
 use Rattle.journal_lives.specs.FlowLives.{FlowLives}
@@ -130,7 +131,7 @@ pub record Giving (T : Type 0) : Type 0 where
   pub kept : Keeping
   pub bearers : Bearers T
   pub waits : Waits
-  -- the SDU of the group's line, while no record refuses it: it is submitted as its group ends
+  -- the SDU of the group's line, until it is submitted or refused
   pub submitted : Option Submission
   pub hands_over : Bool
   -- each `take` and each `report` of acknowledged data was right
@@ -158,13 +159,40 @@ may_take k (records.Of side (events.Expired lcid Poll)) g =
     offers k side (bearer_at lcid g.bearers) (waits_at side lcid g.waits)
 may_take k one g = false
 
--- ---- a record
+-- ---- an SDU is submitted
 
 abbrev pub submits : {T : Type 0} → Keeper T → Side → ℕ → List ℕ → Giving T → Giving T
 submits k side lcid octets g = record g {
   bearers = changed_on side lcid (told k (SduSubmitted octets)) g.bearers;
   waits = one_more side lcid g.waits;
 }
+
+-- The SDU of a `submit` line is submitted with its line, before the records of its group, unless a
+-- `refused` record of its side and channel stands directly behind the line; a `refused` record
+-- elsewhere says nothing. So what becomes of it is told by the first record of the group, or by its
+-- end where it has none.
+
+-- what is left to be submitted by the record directly behind the line
+abbrev pub unrefused : Record → Option Submission → Option Submission
+unrefused one None = None
+unrefused one (Some s) = if refuses s.side s.lcid one then None else Some s
+
+abbrev pub submits_own : {T : Type 0} → Keeper T → Option Submission → Giving T → Giving T
+submits_own k None g = g
+submits_own k (Some s) g = submits k s.side s.lcid s.octets g
+
+abbrev pub with_submitted : {T : Type 0} → Option Submission → Giving T → Giving T
+with_submitted sdu g = record g { submitted = sdu }
+
+-- the SDU of the line is submitted, where one is left
+abbrev pub line_submitted : {T : Type 0} → Keeper T → Giving T → Giving T
+line_submitted k g = with_submitted None (submits_own k g.submitted g)
+
+-- before a record, which may refuse it
+abbrev pub settled : {T : Type 0} → Keeper T → Record → Giving T → Giving T
+settled k one g = line_submitted k (with_submitted (unrefused one g.submitted) g)
+
+-- ---- a record
 
 abbrev pub take_right : {T : Type 0} → Keeper T → Side → Option ℕ → ℕ → Option (Bearer T) → Bool
 take_right k side count len None = true
@@ -199,7 +227,6 @@ happens k side event g = g
 abbrev pub tells : {T : Type 0} → Keeper T → Record → Giving T → Giving T
 tells k (records.Of side event) g = happens k side event g
 tells k (records.Looped lcid octets) g = submits k Ue lcid octets g
-tells k (records.Refused side lcid why) g = record g { submitted = None }
 tells k (records.Air direction what heard) g = if is_got what
     then record g {
       bearers = each_from (landed_on k (sender_of direction) g.kept) 0 g.bearers;
@@ -209,9 +236,12 @@ tells k one g = g
 abbrev pub with_kept : {T : Type 0} → Keeping → Giving T → Giving T
 with_kept kept g = record g { kept = kept }
 
-abbrev pub after_record : {T : Type 0} → Keeper T → Record → Giving T → Giving T
-after_record k one g =
+abbrev pub record_told : {T : Type 0} → Keeper T → Record → Giving T → Giving T
+record_told k one g =
     tells k one (with_kept (record_kept (may_take k one g) one g.kept) g)
+
+abbrev pub after_record : {T : Type 0} → Keeper T → Record → Giving T → Giving T
+after_record k one g = record_told k one (settled k one g)
 
 -- ---- a line, and the end of its group
 
@@ -240,10 +270,6 @@ after_line k line g = record {
   right = g.right;
 }
 
-abbrev pub submits_last : {T : Type 0} → Keeper T → Option Submission → Giving T → Giving T
-submits_last k None g = g
-submits_last k (Some s) g = submits k s.side s.lcid s.octets g
-
 -- a handover ends a life of each flow, and SDUs that wait on signalling bearers are dropped
 abbrev pub hands_on : {T : Type 0} → Keeper T → Bool → Giving T → Giving T
 hands_on k true g = record g {
@@ -252,15 +278,12 @@ hands_on k true g = record g {
 }
 hands_on k false g = g
 
-abbrev pub none_submitted : {T : Type 0} → Giving T → Giving T
-none_submitted g = record g { submitted = None }
-
 abbrev pub at_rest : {T : Type 0} → Giving T → Giving T
 at_rest g = record g { hands_over = false }
 
 abbrev pub after_group : {T : Type 0} → Keeper T → Giving T → Giving T
-after_group k g = at_rest (hands_on k g.hands_over
-    (none_submitted (submits_last k g.submitted (with_kept (group_kept g.kept) g))))
+after_group k g =
+    at_rest (hands_on k g.hands_over (line_submitted k (with_kept (group_kept g.kept) g)))
 
 -- ---- a journal, group by group; the newest stands first
 
@@ -283,16 +306,19 @@ abbrev pub group_at : ℕ → List Group → Option Group
 group_at n [] = None
 group_at n (now ∷ past) = if length past == n then Some now else group_at n past
 
--- behind records of which the latest stands first
+-- behind records of which the latest stands first, and before the next one
 abbrev pub behind_records : {T : Type 0} → Keeper T → List Record → Giving T → Giving T
 behind_records k [] g = g
 behind_records k (one ∷ before) g = after_record k one (behind_records k before g)
+
+abbrev pub before_record : {T : Type 0} → Keeper T → Record → List Record → Giving T → Giving T
+before_record k one before g = settled k one (behind_records k before g)
 
 abbrev pub may_take_in : {T : Type 0} → Keeper T → Option Group → List Group → List Record → Record
     → Bool
 may_take_in k None past before one = false
 may_take_in k (Some now) past before one =
-    may_take k one (behind_records k before (after_line k now.line (all_given k past)))
+    may_take k one (before_record k one before (after_line k now.line (all_given k past)))
 
 -- by a whole journal, which has the lines of its groups
 abbrev pub may_take_by : {T : Type 0} → Keeper T → List Group → MayTake

@@ -1,11 +1,13 @@
 -- What is gathered of a journal is what it tells (docs/laws/ACCOUNT.md).
-use Rattle.std.specs.Prelude.{ℕ, ◌≡◌, ◌+◌, ◌≤◌, ◌==◌, ◌↔◌, true, IsTrue, List, ◌∷◌, Option, None}
-use Rattle.std.specs.Prelude.{Some, option_map}
+use Rattle.std.specs.Prelude.{ℕ, ◌≡◌, ◌+◌, ◌≤◌, ◌==◌, ◌↔◌, true, IsTrue, List, [], ◌∷◌, Option}
+use Rattle.std.specs.Prelude.{None, Some, option_map}
 use Rattle.std.specs.List.{list_any}
 use Rattle.l2_num.specs.Ascending.{IsAscending}
 use Rattle.l2_num.specs.Least.{IsLeast}
 use Rattle.l2_types.specs.declared.side.Side.{Side}
 use Rattle.bearer_types.specs.declared.config.BearerConfig.{BearerConfig}
+use Rattle.air_record.specs.declared.line.Line.{Line}
+use Rattle.air_record.specs.declared.record.Record.{Record}
 use Rattle.air_text.specs.Groups.{Group}
 use Rattle.journal_account.specs.Confirmed.{is_confirmed_sdu}
 use Rattle.journal_account.specs.Stream.{is_in_sequence}
@@ -14,12 +16,15 @@ use Rattle.journal_lives.specs.LifeEvents.{LifeEvent, running, count_came}
 use Rattle.journal_takes.specs.FlowTakes.{FlowTakes}
 use Rattle.journal_takes.specs.Takeable.{AreTakes}
 use Rattle.journal_flows.specs.FlowsTold.{flows_told, flows_within}
-use Rattle.journal_flows.specs.Accounts.{is_acked_kind, account_at, kept_within, all_kept}
+use Rattle.journal_flows.specs.Accounts.{is_acked_kind, account_at, after_taking, kept_within}
+use Rattle.journal_flows.specs.Accounts.{all_kept}
 use Rattle.journal_flows.specs.Laws.{bearer_on}
+use Rattle.journal_flows.specs.Laws as flows
 use Rattle.journal_given.specs.Supplies.{Bearer, History, account, histories, accounts}
 use Rattle.journal_given.specs.Supplies.{is_confirmed_by, is_sequenced_by, come_by}
-use Rattle.journal_given.specs.Giving.{Giving, side_of, bearer_at, given_within, all_given}
-use Rattle.journal_given.specs.Giving.{may_take_by}
+use Rattle.journal_given.specs.Giving.{Giving, side_of, bearer_at, nothing_given, may_take}
+use Rattle.journal_given.specs.Giving.{settled, with_kept, after_line, after_record, after_group}
+use Rattle.journal_given.specs.Giving.{given_within, all_given, may_take_by}
 use Rattle.journal_given.specs.RightTakes.{TakesAreRight}
 
 -- ---- the flows
@@ -94,6 +99,52 @@ pub record AreTakesTold (past : List Group) (side : Side) (lcid : ℕ) : Type 0 
 
 abbrev pub TakesAreTold : Type 0
 TakesAreTold = (past : List Group) (side : Side) (lcid : ℕ) → AreTakesTold past side lcid
+
+-- ---- SDUs that unacknowledged flows hand up may be taken at any time
+
+-- what is done: a line, a record and the end of a group go in, and the next SDU of the
+-- unacknowledged flow of a side on a channel is taken
+pub data Deed : Type 0 where
+  GoesLine : Line → Deed
+  GoesRecord : Record → Deed
+  GoesEnd : Deed
+  IsTaken : Side → ℕ → Deed
+
+-- Deeds, of which the latest stands first.
+
+abbrev pub given_by : List Deed → Giving FlowTakes
+given_by [] = nothing_given
+given_by (GoesLine line ∷ deeds) = after_line accounts line (given_by deeds)
+given_by (GoesRecord one ∷ deeds) = after_record accounts one (given_by deeds)
+given_by (GoesEnd ∷ deeds) = after_group accounts (given_by deeds)
+given_by (IsTaken side lcid ∷ deeds) =
+    with_kept (after_taking side lcid (given_by deeds).kept) (given_by deeds)
+
+-- without the SDUs that are taken
+abbrev pub untaken : List Deed → List Deed
+untaken [] = []
+untaken (IsTaken side lcid ∷ deeds) = untaken deeds
+untaken (deed ∷ deeds) = deed ∷ untaken deeds
+
+-- the same as what is done with the accounts of flows
+abbrev pub flows_done : List Deed → List flows.Deed
+flows_done [] = []
+flows_done (GoesLine line ∷ deeds) = flows.GoesLine line ∷ flows_done deeds
+flows_done (GoesRecord one ∷ deeds) =
+    flows.GoesRecord (may_take accounts one (settled accounts one (given_by deeds))) one
+    ∷ flows_done deeds
+flows_done (GoesEnd ∷ deeds) = flows.GoesEnd ∷ flows_done deeds
+flows_done (IsTaken side lcid ∷ deeds) = flows.IsTaken side lcid ∷ flows_done deeds
+
+-- what is given is as if nothing were taken, but for the accounts of flows, of which `TakingIsFree`
+-- of `journal_flows` says so
+pub record AreTaken (deeds : List Deed) : Type 0 where
+  pub given : given_by deeds
+      ≡ with_kept (flows.kept_by (flows_done deeds)) (given_by (untaken deeds))
+  pub kept : (given_by (untaken deeds)).kept ≡ flows.kept_by (flows.untaken (flows_done deeds))
+
+abbrev pub TakingIsFree : Type 0
+TakingIsFree = (deeds : List Deed) → AreTaken deeds
 
 -- ---- the verdict
 

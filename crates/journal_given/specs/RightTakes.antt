@@ -17,8 +17,8 @@ use Rattle.journal_takes.specs.declared.take.Take.TheVariants.{Report, Pdu}
 use Rattle.journal_takes.specs.TakeEvents.{next_new, kept, sdu_of}
 use Rattle.journal_takes.specs.Takeable.{IsTakeable}
 use Rattle.journal_given.specs.Supplies.{History, histories, Supply, Bearer, marked_from}
-use Rattle.journal_given.specs.Giving.{Giving, side_of, bearer_at, after_line, after_record}
-use Rattle.journal_given.specs.Giving.{all_given}
+use Rattle.journal_given.specs.Giving.{Giving, side_of, bearer_at, settled, after_line}
+use Rattle.journal_given.specs.Giving.{after_record, all_given}
 
 -- ---- by the history of the data
 
@@ -49,7 +49,7 @@ pub record DiscardIsRight (s : Supply History) : Type 0 where
   pub waits : next_new s.takes.first s.takes.events - s.takes.first
       < length (kept s.takes.first s.takes.events)
 
--- ---- a record, by what those before it told; other bearers aren't judged
+-- ---- a record, by what its line and those before it told; other bearers aren't judged
 
 abbrev pub OnBearer : Option (Bearer History) → Side → (Supply History → Type 0) → Type 0
 OnBearer None side right = Unit {0}
@@ -73,7 +73,8 @@ IsRightRecord one g = Unit {0}
 abbrev pub AreRightRecords : List Record → Giving History → Type 0
 AreRightRecords [] g = Unit {0}
 AreRightRecords (one ∷ records') g =
-    IsRightRecord one g × AreRightRecords records' (after_record histories one g)
+    IsRightRecord one (settled histories one g)
+    × AreRightRecords records' (after_record histories one g)
 
 abbrev pub TakesAreRight : List Group → Type 0
 TakesAreRight [] = Unit {0}

@@ -1,11 +1,12 @@
 // What a journal's lines and records tell, one by one.
 ghost use Rattle.std.specs.Prelude.{◌≡◌, OnOk, Some, option_copied};
 ghost use Rattle.bearer_types.specs.Sides.{sender_of};
+ghost use Rattle.promises.specs.Flows.{refuses};
 ghost use Rattle.promises.specs.Parts.{is_handover};
 ghost use Rattle.promises.specs.Records.{is_got};
 ghost use Rattle.journal_form.specs.Lines.{HasLayout};
 ghost use Rattle.journal_given.specs.Supplies.{accounts};
-ghost use Rattle.journal_given.specs.Giving.{bearer_at, waits_at, offers};
+ghost use Rattle.journal_given.specs.Giving.{bearer_at, waits_at, offers, unrefused};
 
 use crate::bearer;
 use crate::bearers::{self, Bearers};
@@ -47,16 +48,37 @@ pub(crate) struct Submission {
     octets: Bytes,
 }
 
+// Whether a record directly behind the line refuses its SDU.
+fn refuses(one: &Record, sdu: &Submission) -> bool
+    ensures { result ≡ refuses sdu.now.side sdu.now.lcid one.now }
+{
+    match one {
+        Record::Refused { side, lcid, .. } => *side == sdu.side && *lcid == sdu.lcid,
+        _ => false,
+    }
+}
+
+// What it leaves to be submitted.
+fn unrefused(one: &Record, sdu: Option<Submission>) -> Option<Submission>
+    ensures { result ≡ unrefused one.now sdu }
+{
+    let sdu = sdu?;
+    if refuses(one, &sdu) {
+        return None;
+    }
+    Some(sdu)
+}
+
 /// Gathers what PDCP gives RLC of acknowledged data from the lines and records of a journal, which
 /// go in one by one, and judges its `take` and `report` records. It keeps the accounts of the
 /// journal's flows within it, since both stand on each other: RLC confirms what its flow says, and
 /// t-PollRetransmit recalls a number where nothing may be taken (TS 36.322 5.2.2.3). Contracts see
 /// what is gathered (`specs/Giving.antt`).
 ///
-/// It keeps what `JournalFlows` keeps, the SDUs among it that unacknowledged flows hand up, which
-/// nobody takes here; what `FlowTakes` keeps of each side of a bearer of acknowledged data, the
-/// PDUs that RLC was given in the life that runs and that aren't confirmed, and the COUNTs that a
-/// status report marks. But for these SDUs it doesn't grow with the journal.
+/// It keeps what `JournalFlows` keeps, the SDUs among it that unacknowledged flows hand up, until
+/// they are taken (`flows_mut`); what `FlowTakes` keeps of each side of a bearer of acknowledged
+/// data, the PDUs that RLC was given in the life that runs and that aren't confirmed, and the
+/// COUNTs that a status report marks. Where these SDUs are taken it doesn't grow with the journal.
 #[derive(Drop)]
 pub struct JournalGiven {
     alloc: Global,
@@ -87,8 +109,10 @@ impl Model for JournalGiven {
 impl JournalGiven {
     ghost use Rattle.journal_given.specs.Laws.{takes_at};
     ghost use Rattle.journal_given.specs.Giving.{nothing_given, may_take, submits, happens, tells};
-    ghost use Rattle.journal_given.specs.Giving.{submits_last, hands_on, submitted_by};
-    ghost use Rattle.journal_given.specs.Giving.{none_submitted, at_rest};
+    ghost use Rattle.journal_given.specs.Giving.{line_submitted, settled, hands_on, submitted_by};
+    ghost use Rattle.journal_given.specs.Giving.{at_rest};
+    ghost use Rattle.journal_given.specs.Lending.{lends_flows};
+    ghost use Rattle.std.specs.Borrow.{sem};
     ghost use Rattle.std.specs.Prelude.{IfOk};
     ghost use Rattle.journal_given.specs.Giving.{after_line, after_record, after_group};
 
@@ -112,6 +136,16 @@ impl JournalGiven {
         ensures { result.now ≡ self.now.kept }
     {
         &self.flows
+    }
+
+    /// The accounts of the journal's flows, lent so that the SDUs that unacknowledged flows hand up
+    /// are taken (`JournalFlows::next_joined`): that changes nothing of what is given
+    /// (`laws::taking_is_free`). Lines and records go in by the calls below alone.
+    pub fn flows_mut(&mut self) -> &mut JournalFlows
+        ensures* writes_back { sem 𝓛 (lends_flows self.entry result) }
+        ensures value { result.now ≡ self.old.kept }
+    {
+        &mut self.flows
     }
 
     /// What is told of the acknowledged data that a side sends on a logical channel, 0 to 10;
@@ -166,6 +200,18 @@ impl JournalGiven {
         }
     }
 
+    /// Before a record of the group, which isn't its first: the SDU of a `submit` line is submitted
+    /// with its line, before the records of its group, unless a `refused` record of its side and
+    /// channel stands directly behind the line; a `refused` record elsewhere says nothing. `see`
+    /// does so too: call it where what is given before the record is read. Behind an `Err` nothing
+    /// more is known.
+    pub fn settle(&mut self, one: &Record) -> Result<(), NoMemory>
+        ensures { OnOk result (self.new ≡ settled accounts one.now self.old) }
+    {
+        self.submitted = unrefused(one, self.submitted.take());
+        self.submit_own()
+    }
+
     /// A record of the group, which isn't its first.
     ///
     /// `NoMemory` where there is none, where `JournalFlows` says so, and where a counter ends.
@@ -173,6 +219,7 @@ impl JournalGiven {
     pub fn see(&mut self, one: &Record) -> Result<(), NoMemory>
         ensures { OnOk result (self.new ≡ after_record accounts one.now self.old) }
     {
+        self.settle(one)?;
         let more = self.may_take(one);
         self.flows.see(one, more)?;
         self.tell(one)
@@ -184,7 +231,7 @@ impl JournalGiven {
         ensures { OnOk result (self.new ≡ after_group accounts self.old) }
     {
         self.flows.end_line()?;
-        self.submit_last()?;
+        self.submit_own()?;
         self.hand_on()
     }
 
@@ -218,10 +265,6 @@ impl JournalGiven {
             Record::Looped { lcid, octets } => {
                 let octets = Bytes::from_slice(self.alloc, octets.as_slice())?;
                 self.submit(Side::Ue, *lcid, octets)
-            }
-            Record::Refused { .. } => {
-                self.submitted = None;
-                Ok(())
             }
             Record::Air {
                 direction,
@@ -262,10 +305,9 @@ impl JournalGiven {
         Ok(())
     }
 
-    // The SDU of the group's line is submitted, where no record refused it.
-    fn submit_last(&mut self) -> Result<(), NoMemory>
-        ensures { OnOk result
-            (self.new ≡ none_submitted (submits_last accounts self.old.submitted self.old)) }
+    // The SDU of the group's line is submitted, where one is left.
+    fn submit_own(&mut self) -> Result<(), NoMemory>
+        ensures { OnOk result (self.new ≡ line_submitted accounts self.old) }
     {
         match self.submitted.take() {
             Some(Submission { side, lcid, octets }) => self.submit(side, lcid, octets),

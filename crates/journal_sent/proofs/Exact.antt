@@ -22,7 +22,7 @@ use Rattle.journal_stream.specs.SentOctets.{SentOctets}
 use Rattle.journal_takes.specs.FlowTakes.{FlowTakes}
 use Rattle.journal_flows.specs.declared.account.Account.{Account}
 use Rattle.journal_flows.specs.Gathering.{sdus_read}
-use Rattle.journal_flows.specs.Accounts.{Accounts, slot_at}
+use Rattle.journal_flows.specs.Accounts.{Accounts, Keeping, slot_at}
 use Rattle.journal_given.specs.Supplies as given
 use Rattle.journal_given.specs.Giving.{Giving, all_given}
 use Rattle.journal_given.specs.Giving as giving
@@ -37,15 +37,18 @@ use Rattle.journal_sent.specs.SentFlows.{flow_taken, flow_reported, flow_judges}
 use Rattle.journal_sent.specs.Sending.{Flows, flow_at, changed_on, Sending, nothing_sending, flows_of, with_flows}
 use Rattle.journal_sent.specs.Sending.{changed, judged, after_line, has_bearer, is_known, lcid_in, sdu_of, right_in}
 use Rattle.journal_sent.specs.Sending.{named_of, with_named, event_told, with_verdict, pdu_told_by, acked_at, pdu_told}
-use Rattle.journal_sent.specs.Sending.{pdus_told, block_told, after_record, submits_last, after_group, records_told}
-use Rattle.journal_sent.specs.Sending.{sending_within, all_sending, gives_reports}
+use Rattle.journal_sent.specs.Sending.{pdus_told, block_told, record_told, after_record, unrefused, submits_own}
+use Rattle.journal_sent.specs.Sending.{released, settled, after_group, records_told, sending_within, all_sending}
+use Rattle.journal_sent.specs.Sending.{gives_reports}
 use Rattle.journal_sent.specs.RightSent.{Flow, PduIsSent, PduIsShaped, PduTest, behind_pdu, EachPdu, InBlock, TakenAs}
 use Rattle.journal_sent.specs.RightSent.{DiscardedOf, IsRightEvent, RecordIsSent, RecordIsShaped, RecordTest}
 use Rattle.journal_sent.specs.RightSent.{EachRecord, EachGroup, SentIsRight, ShapesAreRight}
 use Rattle.journal_sent.specs.Laws.{VerdictsAreExact}
+use Rattle.journal_sent.proofs.Grows.{settled_keeps}
 use Rattle.journal_sent.proofs.KeptStreams.{Events}
 use Rattle.journal_sent.proofs.Tells.{IsSound, Tells, none_tells, pdu_sent, pdu_shaped, take_tells, discard_tells}
 use Rattle.journal_sent.proofs.Records.{SlotAlike, AreAlike, plain_step, flow_alike, pdu_both, emptied_both}
+use Rattle.journal_sent.proofs.Records.{settled_both}
 use Rattle.journal_sent.proofs.Groups.{IsWithin, GiveAlike, record_within, give_alike, all_alike, begun_within}
 
 -- ---- flows are sound
@@ -309,7 +312,7 @@ begun_alike a s t h = plain_step a (λ (x : Sending SentOctets). record x { pass
 
 record_sent : (one : Record) (g : Giving given.History) (s : Sending Events) (t : Sending SentOctets)
     → AreAlike g.kept.journal.flows s t
-    → Judges (after_record histories given.histories one g s).sent s.sent (RecordIsSent one g s)
+    → Judges (record_told histories given.histories one g s).sent s.sent (RecordIsSent one g s)
 record_sent (records.Of side event) g s t h =
     let known = is_known (lcid_in event) (begun s) in
     let after = judged known (begun s) in
@@ -336,7 +339,7 @@ record_sent one g s t h = with_none s.sent s.sent refl
 
 record_shaped : (one : Record) (g : Giving given.History) (s : Sending Events) (t : Sending SentOctets)
     → AreAlike g.kept.journal.flows s t
-    → Judges (after_record histories given.histories one g s).shaped s.shaped (RecordIsShaped one g s)
+    → Judges (record_told histories given.histories one g s).shaped s.shaped (RecordIsShaped one g s)
 record_shaped (records.Of side event) g s t h =
     let after = judged (is_known (lcid_in event) (begun s)) (begun s) in
     with_none (event_told histories given.histories side event g s.passed after).shaped s.shaped
@@ -355,27 +358,34 @@ record_shaped one g s t h = with_none s.shaped s.shaped refl
 abbrev JudgesRecords : (Sending Events → Bool) → RecordTest → Type 0
 JudgesRecords so_far right = (one : Record) (g : Giving given.History) (s : Sending Events) (t : Sending SentOctets)
     → AreAlike g.kept.journal.flows s t
-    → Judges (so_far (after_record histories given.histories one g s)) (so_far s) (right one g s)
+    → Judges (so_far (record_told histories given.histories one g s)) (so_far s) (right one g s)
 
-records_exact : (so_far : Sending Events → Bool) (right : RecordTest) → JudgesRecords so_far right
-    → (told : List Record) (g : Giving given.History) (own : Giving FlowTakes) (s : Sending Events)
-    (t : Sending SentOctets) → GiveAlike g own → IsWithin g s t
-    → Judges (so_far (records_told histories given.histories told g s)) (so_far s) (EachRecord right told g s)
-records_exact so_far right judges [] g own s t given_alike h = with_none (so_far s) (so_far s) refl
-records_exact so_far right judges (one ∷ told) g own s t given_alike h =
-    let next = giving.after_record given.histories one g in
-    let after = after_record histories given.histories one g s in
-    joined (so_far (records_told histories given.histories told next after)) (so_far after) (so_far s)
-    (right one g s) (EachRecord right told next after) (judges one g s t h.alike)
-    (records_exact so_far right judges told next (giving.after_record given.accounts one own) after
-    (after_record accounts given.accounts one own t) (λ rest. given_alike (one ∷ rest))
-    (record_within one g own s t given_alike h))
-
--- lines and ends of groups judge nothing
+-- lines, ends of groups and SDUs that are submitted judge nothing
 record Rests (so_far : Sending Events → Bool) : Type 0 where
   starts : so_far nothing_sending ≡ true
   lines : (line : Line) (s : Sending Events) → so_far (after_line histories line s) ≡ so_far s
+  submits : (o : Option SubmittedSdu) (s : Sending Events) → so_far (released o s) ≡ so_far s
   ends : (g : Giving given.History) (s : Sending Events) → so_far (after_group histories g s) ≡ so_far s
+
+records_exact : (so_far : Sending Events → Bool) (right : RecordTest) → JudgesRecords so_far right → Rests so_far
+    → (told : List Record) (g : Giving given.History) (own : Giving FlowTakes) (s : Sending Events)
+    (t : Sending SentOctets) → GiveAlike g own → IsWithin g s t
+    → Judges (so_far (records_told histories given.histories told g s)) (so_far s) (EachRecord right told g s)
+records_exact so_far right judges rests [] g own s t given_alike h = with_none (so_far s) (so_far s) refl
+records_exact so_far right judges rests (one ∷ told) g own s t given_alike h =
+    let next = giving.after_record given.histories one g in
+    let before = giving.settled given.histories one g in
+    let d = settled one s in
+    let after = after_record histories given.histories one before s in
+    let alike = subst (λ (k : Keeping). AreAlike k.journal.flows d (settled one t)) (sym (settled_keeps one g))
+    (settled_both g.kept.journal.flows one s t h.alike) in
+    joined (so_far (records_told histories given.histories told next after)) (so_far after) (so_far s)
+    (right one before d) (EachRecord right told next after)
+    (from_before (so_far after) (so_far d) (so_far s) (right one before d)
+    (rests.submits (unrefused one s.submitted) s) (judges one before d (settled one t) alike))
+    (records_exact so_far right judges rests told next (giving.after_record given.accounts one own) after
+    (after_record accounts given.accounts one (giving.settled given.accounts one own) t)
+    (λ rest. given_alike (one ∷ rest)) (record_within one g own s t given_alike h))
 
 line_sent : (line : Line) (s : Sending Events) → (after_line histories line s).sent ≡ s.sent
 line_sent (lines.Bearer config options) s = refl
@@ -389,19 +399,29 @@ line_shaped (lines.Keys keys) s = refl
 line_shaped (lines.Handover user rrc integrity) s = refl
 line_shaped line s = refl
 
-last_sent : (o : Option SubmittedSdu) (s : Sending Events) → (submits_last o s).sent ≡ s.sent
-last_sent None s = refl
-last_sent (Some d) s = flows_sent d.side (changed_on d.lcid (flow_submitted d.octets) (flows_of d.side s)) s
+own_sent : (o : Option SubmittedSdu) (s : Sending Events) → (submits_own o s).sent ≡ s.sent
+own_sent None s = refl
+own_sent (Some d) s = flows_sent d.side (changed_on d.lcid (flow_submitted d.octets) (flows_of d.side s)) s
 
-last_shaped : (o : Option SubmittedSdu) (s : Sending Events) → (submits_last o s).shaped ≡ s.shaped
-last_shaped None s = refl
-last_shaped (Some d) s = flows_shaped d.side (changed_on d.lcid (flow_submitted d.octets) (flows_of d.side s)) s
+own_shaped : (o : Option SubmittedSdu) (s : Sending Events) → (submits_own o s).shaped ≡ s.shaped
+own_shaped None s = refl
+own_shaped (Some d) s = flows_shaped d.side (changed_on d.lcid (flow_submitted d.octets) (flows_of d.side s)) s
 
 sent_rests : Rests sent_of
-sent_rests = record { starts = refl; lines = line_sent; ends = λ g s. last_sent s.submitted s }
+sent_rests = record {
+  starts = refl;
+  lines = line_sent;
+  submits = λ o s. own_sent o (record s { submitted = None });
+  ends = λ g s. own_sent s.submitted (record s { submitted = None });
+}
 
 shaped_rests : Rests shaped_of
-shaped_rests = record { starts = refl; lines = line_shaped; ends = λ g s. last_shaped s.submitted s }
+shaped_rests = record {
+  starts = refl;
+  lines = line_shaped;
+  submits = λ o s. own_shaped o (record s { submitted = None });
+  ends = λ g s. own_shaped s.submitted (record s { submitted = None });
+}
 
 groups_exact : (so_far : Sending Events → Bool) (right : RecordTest) → JudgesRecords so_far right → Rests so_far
     → (past : List Group) → Tells (so_far (all_sending histories given.histories past)) (EachGroup right past)
@@ -411,7 +431,7 @@ groups_exact so_far right judges rests (now ∷ past) =
     let first = after_line histories now.line before in
     let g = giving.after_line given.histories now.line (all_given given.histories past) in
     let behind = sending_within histories given.histories now (all_given given.histories past) before in
-    let here = records_exact so_far right judges now.events g
+    let here = records_exact so_far right judges rests now.events g
     (giving.after_line given.accounts now.line (all_given given.accounts past)) first
     (after_line accounts now.line (all_sending accounts given.accounts past)) (give_alike now past)
     (begun_within now past) in

@@ -27,7 +27,7 @@ use Rattle.journal_flows.specs.Accounts.{accounts_ended, accounts as account_ste
 use Rattle.journal_given.specs.Supplies as given
 use Rattle.journal_given.specs.Giving.{Giving, each_from, all_given, given_within}
 use Rattle.journal_given.specs.Giving as giving
-use Rattle.journal_given.proofs.Images.{giving_image, within_image, given_image}
+use Rattle.journal_given.proofs.Images.{giving_image, settled_image, within_image, given_image}
 use Rattle.journal_sent.specs.declared.checker.NamedPdu.{NamedPdu}
 use Rattle.journal_sent.specs.declared.checker.SubmittedSdu.{SubmittedSdu}
 use Rattle.journal_sent.specs.declared.checker.PassedSdu.{PassedSdu}
@@ -36,14 +36,15 @@ use Rattle.journal_sent.specs.SentFlows.{SentFlow, cover_of, flow_submitted, flo
 use Rattle.journal_sent.specs.SentFlows.{flow_reported, flow_discarded}
 use Rattle.journal_sent.specs.Sending.{Flows, flow_at, Sending, flows_of, with_flows, changed_on, bearer_begun}
 use Rattle.journal_sent.specs.Sending.{after_line, is_known, lcid_in, judged, sdu_of, event_told}
-use Rattle.journal_sent.specs.Sending.{named_of, with_named, pdu_told_by, acked_at, pdu_told, pdus_told, record_told}
-use Rattle.journal_sent.specs.Sending.{after_record, submits_last, renewed_by, keys_behind, after_group}
+use Rattle.journal_sent.specs.Sending.{named_of, with_named, pdu_told_by, acked_at, pdu_told, pdus_told, tells}
+use Rattle.journal_sent.specs.Sending.{unrefused, submits_own, released, settled, after_record, renewed_by, keys_behind}
+use Rattle.journal_sent.specs.Sending.{after_group}
 use Rattle.journal_sent.specs.Sending.{records_told, sending_within, all_sending, flow_closed, closed}
 use Rattle.journal_sent.proofs.Grows.{hands_keep, group_keeps}
 use Rattle.journal_sent.proofs.KeptStreams.{Events}
-use Rattle.journal_sent.proofs.KeptFlows.{IsAlike, submitted_alike, begun_alike, renewed_alike, settled_alike}
+use Rattle.journal_sent.proofs.KeptFlows.{IsAlike, begun_alike, renewed_alike, settled_alike}
 use Rattle.journal_sent.proofs.Records.{SlotAlike, AllAlike, set_alike, dressed, AreAlike, stepped, plain_step}
-use Rattle.journal_sent.proofs.Records.{changed_alike, record_alike}
+use Rattle.journal_sent.proofs.Records.{left_both, record_alike}
 
 -- ---- keys of the next life are told where the accounts' lives end
 
@@ -95,7 +96,7 @@ pdus_renew side g (n ∷ named) (d ∷ sdus) s =
     ∙ pdu_renews side (acked_at side d.lcid g) n d (flow_at d.lcid (flows_of side s)) s
 
 record_renews : (one : Record) (g : Giving given.History) (p : Option PassedSdu) (s : Sending Events)
-    → (record_told histories given.histories one g p s).renewal ≡ s.renewal
+    → (tells histories given.histories one g p s).renewal ≡ s.renewal
 record_renews (records.Of side event) g p s = event_renews side event g p (judged (is_known (lcid_in event) s) s)
 record_renews (records.Block direction process true version octets) g p s =
     pdus_renew (sender_of direction) g (named_of (sender_of direction) s) (sdus_read (reading direction octets))
@@ -104,6 +105,13 @@ record_renews (records.Block direction process false version octets) g p s = ref
 record_renews (records.Looped lcid octets) g p s = refl
 record_renews (records.Refused side lcid why) g p s = refl
 record_renews one g p s = refl
+
+own_renews : (o : Option SubmittedSdu) (s : Sending Events) → (submits_own o s).renewal ≡ s.renewal
+own_renews None s = refl
+own_renews (Some d) s = flows_renew d.side (changed_on d.lcid (flow_submitted d.octets) (flows_of d.side s)) s
+
+released_renews : (o : Option SubmittedSdu) (s : Sending Events) → (released o s).renewal ≡ s.renewal
+released_renews o s = own_renews o (record s { submitted = None })
 
 -- ---- a line
 
@@ -159,15 +167,25 @@ abbrev pub GiveAlike : Giving given.History → Giving FlowTakes → Type 0
 GiveAlike g own = (rest : List Record)
     → giving_image (giving.after_records given.histories rest g) ≡ giving.after_records given.accounts rest own
 
+settled_alike_by : (one : Record) (g : Giving given.History) (own : Giving FlowTakes) → GiveAlike g own
+    → giving_image (giving.settled given.histories one g) ≡ giving.settled given.accounts one own
+settled_alike_by one g own given_alike =
+    settled_image one g ∙ ap (giving.settled given.accounts one) (given_alike [])
+
 pub record_within : (one : Record) (g : Giving given.History) (own : Giving FlowTakes) (s : Sending Events)
     (t : Sending SentOctets) → GiveAlike g own → IsWithin g s t
-    → IsWithin (giving.after_record given.histories one g) (after_record histories given.histories one g s)
-    (after_record accounts given.accounts one own t)
+    → IsWithin (giving.after_record given.histories one g)
+    (after_record histories given.histories one (giving.settled given.histories one g) s)
+    (after_record accounts given.accounts one (giving.settled given.accounts one own) t)
 record_within one g own s t given_alike h =
-    let renewal : (after_record histories given.histories one g s).renewal ≡ s.renewal =
-    record_renews one g s.passed (record s { passed = None }) in
+    let before = giving.settled given.histories one g in
+    let d = settled one s in
+    let renewal : (after_record histories given.histories one before s).renewal ≡ s.renewal =
+    record_renews one before d.passed (record d { passed = None })
+    ∙ released_renews (unrefused one s.submitted) s in
     subst (λ (x : Giving FlowTakes). IsWithin (giving.after_record given.histories one g)
-    (after_record histories given.histories one g s) (after_record accounts given.accounts one x t)) (given_alike [])
+    (after_record histories given.histories one before s) (after_record accounts given.accounts one x t))
+    (settled_alike_by one g own given_alike)
     (record {
       alike = record_alike one g s t h.alike;
       renews = subst (λ (o : Option Keys). Renews o (giving.after_record given.histories one g).kept.hands_over)
@@ -181,7 +199,8 @@ pub records_within : (told : List Record) (g : Giving given.History) (own : Givi
 records_within [] g own s t given_alike h = h
 records_within (one ∷ told) g own s t given_alike h =
     records_within told (giving.after_record given.histories one g) (giving.after_record given.accounts one own)
-    (after_record histories given.histories one g s) (after_record accounts given.accounts one own t)
+    (after_record histories given.histories one (giving.settled given.histories one g) s)
+    (after_record accounts given.accounts one (giving.settled given.accounts one own) t)
     (λ rest. given_alike (one ∷ rest)) (record_within one g own s t given_alike h)
 
 -- ---- a group ends
@@ -334,37 +353,26 @@ closed_alike k s t h renews =
     s (closed_by histories s.renewal (behind_end account_steps k.hands_over k.journal).flows s)
     (closed_at s.renewal k.hands_over renews k.journal s) t h
 
-last_alike : (a : Accounts) (o : Option SubmittedSdu) (s : Sending Events) (t : Sending SentOctets) → AreAlike a s t
-    → AreAlike a (submits_last o s) (submits_last o t)
-last_alike a None s t h = h
-last_alike a (Some d) s t h = changed_alike a d.side d.lcid (flow_submitted d.octets) (flow_submitted d.octets)
-    (λ account. submitted_alike account d.octets) s t h
-
-last_renews : (o : Option SubmittedSdu) (s : Sending Events) → (submits_last o s).renewal ≡ s.renewal
-last_renews None s = refl
-last_renews (Some d) s = flows_renew d.side (changed_on d.lcid (flow_submitted d.octets) (flows_of d.side s)) s
-
 group_alike : (g : Giving given.History) (s : Sending Events) (t : Sending SentOctets) → IsWithin g s t
     → AreAlike (giving.after_group given.histories g).kept.journal.flows
     (after_group histories (giving.after_group given.histories g) s)
     (after_group accounts (giving_image (giving.after_group given.histories g)) t)
 group_alike g s t h =
-    let last = subst (λ (o : Option SubmittedSdu). AreAlike g.kept.journal.flows (submits_last s.submitted s)
-    (submits_last o t)) (sym (ap (λ (x : Sending SentOctets). x.submitted) h.alike.is))
-    (last_alike g.kept.journal.flows s.submitted s t h.alike) in
-    let renews = subst (λ (o : Option Keys). Renews o g.kept.hands_over) (sym (last_renews s.submitted s)) h.renews in
+    let last = left_both (λ (o : Option SubmittedSdu). o) g.kept.journal.flows s t h.alike in
+    let renews = subst (λ (o : Option Keys). Renews o g.kept.hands_over) (sym (released_renews s.submitted s))
+    h.renews in
     let after = giving.after_group given.histories g in
-    let told = closed_so histories after (submits_last s.submitted s) in
-    let own = closed_so accounts (giving_image after) (submits_last t.submitted t) in
+    let told = closed_so histories after (released s.submitted s) in
+    let own = closed_so accounts (giving_image after) (released t.submitted t) in
     subst (λ (x : Sending SentOctets). AreAlike after.kept.journal.flows (after_group histories after s) x) (sym own)
     (subst (λ (x : Sending Events). AreAlike after.kept.journal.flows x
-    (closed_by accounts (submits_last t.submitted t).renewal after.kept.journal.flows (submits_last t.submitted t)))
+    (closed_by accounts (released t.submitted t).renewal after.kept.journal.flows (released t.submitted t)))
     (sym told)
     (subst (λ (k : Keeping). AreAlike k.journal.flows
-    (closed_by histories (submits_last s.submitted s).renewal k.journal.flows (submits_last s.submitted s))
-    (closed_by accounts (submits_last t.submitted t).renewal k.journal.flows (submits_last t.submitted t)))
+    (closed_by histories (released s.submitted s).renewal k.journal.flows (released s.submitted s))
+    (closed_by accounts (released t.submitted t).renewal k.journal.flows (released t.submitted t)))
     (sym (group_keeps g))
-    (closed_alike g.kept (submits_last s.submitted s) (submits_last t.submitted t) last renews)))
+    (closed_alike g.kept (released s.submitted s) (released t.submitted t) last renews)))
 
 -- ---- a journal
 

@@ -44,7 +44,8 @@ use Rattle.journal_flows.specs.Accounts.{after_record as record_kept, after_grou
 use Rattle.journal_given.specs.declared.given.Submission.{Submission}
 use Rattle.journal_given.specs.Supplies.{History, histories}
 use Rattle.journal_given.specs.Giving.{Giving, each_from, landed_on, may_take, happens, tells, with_kept, after_record}
-use Rattle.journal_given.specs.Giving.{submits_last, hands_on, none_submitted, after_group}
+use Rattle.journal_given.specs.Giving.{unrefused, submits_own, with_submitted, line_submitted, settled, hands_on}
+use Rattle.journal_given.specs.Giving.{after_group}
 
 -- ---- an event of an account
 
@@ -240,7 +241,6 @@ happens_keeps side event g = refl
 tells_keeps : (one : Record) (g : Giving History) → (tells histories one g).kept ≡ g.kept
 tells_keeps (records.Of side event) g = happens_keeps side event g
 tells_keeps (records.Looped lcid octets) g = refl
-tells_keeps (records.Refused side lcid why) g = refl
 tells_keeps (records.Air direction what heard) g = by (is_got what)
   where
     by : (b : Bool) → (if b then record g {
@@ -250,22 +250,32 @@ tells_keeps (records.Air direction what heard) g = by (is_got what)
     by false = refl
 tells_keeps one g = refl
 
+own_keeps : (o : Option Submission) (g : Giving History) → (submits_own histories o g).kept ≡ g.kept
+own_keeps None g = refl
+own_keeps (Some s) g = refl
+
+line_keeps : (g : Giving History) → (line_submitted histories g).kept ≡ g.kept
+line_keeps g = own_keeps g.submitted g
+
+pub settled_keeps : (one : Record) (g : Giving History) → (settled histories one g).kept ≡ g.kept
+settled_keeps one g = line_keeps (with_submitted (unrefused one g.submitted) g)
+
 record_keeps : (one : Record) (g : Giving History)
-    → (after_record histories one g).kept ≡ record_kept (may_take histories one g) one g.kept
-record_keeps one g = tells_keeps one (with_kept (record_kept (may_take histories one g) one g.kept) g)
+    → (after_record histories one g).kept
+    ≡ record_kept (may_take histories one (settled histories one g)) one g.kept
+record_keeps one g =
+    let before = settled histories one g in
+    tells_keeps one (with_kept (record_kept (may_take histories one before) one before.kept) before)
+    ∙ ap (record_kept (may_take histories one before) one) (settled_keeps one g)
 
 pub record_keep : (P : Accounts → Type 0) → Keeps P → (one : Record) (g : Giving History) → P g.kept.journal.flows
     → P (after_record histories one g).kept.journal.flows
 record_keep P keeps one g h = subst (λ (k : Keeping). P k.journal.flows) (sym (record_keeps one g))
-    (journal_keep P keeps g.kept.kinds (may_take histories one g) one g.kept.journal h)
+    (journal_keep P keeps g.kept.kinds (may_take histories one (settled histories one g)) one g.kept.journal h)
 
 pub hands_keep : (one : Record) (g : Giving History)
     → (after_record histories one g).kept.hands_over ≡ g.kept.hands_over
 hands_keep one g = ap (λ (k : Keeping). k.hands_over) (record_keeps one g)
-
-last_keeps : (o : Option Submission) (g : Giving History) → (submits_last histories o g).kept ≡ g.kept
-last_keeps None g = refl
-last_keeps (Some s) g = refl
 
 hand_keeps : (b : Bool) (g : Giving History) → (hands_on histories b g).kept ≡ g.kept
 hand_keeps true g = refl
@@ -273,5 +283,5 @@ hand_keeps false g = refl
 
 pub group_keeps : (g : Giving History) → (after_group histories g).kept ≡ group_kept g.kept
 group_keeps g =
-    hand_keeps g.hands_over (none_submitted (submits_last histories g.submitted (with_kept (group_kept g.kept) g)))
-    ∙ last_keeps g.submitted (with_kept (group_kept g.kept) g)
+    hand_keeps g.hands_over (line_submitted histories (with_kept (group_kept g.kept) g))
+    ∙ line_keeps (with_kept (group_kept g.kept) g)

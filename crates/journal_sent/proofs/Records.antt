@@ -21,7 +21,7 @@ use Rattle.journal_flows.specs.Gathering.{sdus_read}
 use Rattle.journal_flows.specs.Accounts.{Accounts, slot_with, acked_in, channels_of, slot_at, channel_with}
 use Rattle.journal_flows.specs.Accounts.{account_with}
 use Rattle.journal_given.specs.Supplies as given
-use Rattle.journal_given.specs.Giving.{Giving, bearer_at, after_record as after_given}
+use Rattle.journal_given.specs.Giving.{Giving, bearer_at, settled as settled_given, after_record as after_given}
 use Rattle.journal_given.proofs.Images.{giving_image, slot_image, at_image}
 use Rattle.journal_sent.specs.declared.checker.NamedPdu.{NamedPdu}
 use Rattle.journal_sent.specs.declared.checker.SubmittedSdu.{SubmittedSdu}
@@ -34,7 +34,7 @@ use Rattle.journal_sent.specs.Sending.{Flows, flow_at, Sending, flows_of, with_f
 use Rattle.journal_sent.specs.Sending.{has_bearer, is_known, lcid_in, sdu_in, sdu_of, right_in, passed_as, passed_in}
 use Rattle.journal_sent.specs.Sending.{take_told, gives_reports, named_of, with_named, names, event_told}
 use Rattle.journal_sent.specs.Sending.{with_verdict, pdu_told_by, acked_at, pdu_told, pdus_told, block_told}
-use Rattle.journal_sent.specs.Sending.{record_told, after_record}
+use Rattle.journal_sent.specs.Sending.{unrefused, submits_own, released, settled, tells, record_told, after_record}
 use Rattle.journal_sent.proofs.Grows.{IsLiving, slot_grows, Keeps, record_keep}
 use Rattle.journal_sent.proofs.KeptStreams.{Events}
 use Rattle.journal_sent.proofs.KeptFlows.{IsAlike, submitted_alike, discarded_alike, discard_same, taken_alike}
@@ -417,10 +417,33 @@ none_submitted : (a : Accounts) (s : Sending Events) (t : Sending SentOctets) �
 none_submitted a s t h =
     plain_step a (with_submitted None) s (with_submitted None s) refl refl (λ nb ue. refl) t h
 
+own_both : (a : Accounts) (o : Option SubmittedSdu) (s : Sending Events) (t : Sending SentOctets) → AreAlike a s t
+    → AreAlike a (submits_own o s) (submits_own o t)
+own_both a None s t h = h
+own_both a (Some d) s t h = changed_alike a d.side d.lcid (flow_submitted d.octets) (flow_submitted d.octets)
+    (λ account. submitted_alike account d.octets) s t h
+
+released_both : (a : Accounts) (o : Option SubmittedSdu) (s : Sending Events) (t : Sending SentOctets)
+    → AreAlike a s t → AreAlike a (released o s) (released o t)
+released_both a o s t h =
+    own_both a o (with_submitted None s) (with_submitted None t) (none_submitted a s t h)
+
+-- what is left of the SDU of the group's line
+pub left_both : (left : Option SubmittedSdu → Option SubmittedSdu) (a : Accounts) (s : Sending Events)
+    (t : Sending SentOctets) → AreAlike a s t
+    → AreAlike a (released (left s.submitted) s) (released (left t.submitted) t)
+left_both left a s t h =
+    subst (λ (o : Option SubmittedSdu). AreAlike a (released (left s.submitted) s) (released (left o) t))
+    (sym (ap (λ (x : Sending SentOctets). x.submitted) h.is)) (released_both a (left s.submitted) s t h)
+
+pub settled_both : (a : Accounts) (one : Record) (s : Sending Events) (t : Sending SentOctets) → AreAlike a s t
+    → AreAlike a (settled one s) (settled one t)
+settled_both a one s t h = left_both (unrefused one) a s t h
+
 told_record : (a : Accounts) (one : Record) (g : Giving given.History) (p : Option PassedSdu) (s : Sending Events)
     (t : Sending SentOctets) → AreAlike a s t
-    → AreAlike a (record_told histories given.histories one g p s)
-    (record_told accounts given.accounts one (giving_image g) p t)
+    → AreAlike a (tells histories given.histories one g p s)
+    (tells accounts given.accounts one (giving_image g) p t)
 told_record a (records.Of side event) g p s t h =
     event_both a side event g p (judged (is_known (lcid_in event) s) s) (judged (is_known (lcid_in event) t) t)
     (judged_both a (is_known (lcid_in event) s) (is_known (lcid_in event) t) s t (known_same a (lcid_in event) s t h) h)
@@ -432,25 +455,28 @@ told_record a (records.Looped lcid octets) g p s t h =
     (judged (has_bearer lcid s) s) (judged (has_bearer lcid t) t)
     (judged_both a (has_bearer lcid s) (has_bearer lcid t) s t (bearer_same a lcid s t h) h)
 told_record a (records.Refused side lcid why) g p s t h =
-    judged_both a (has_bearer lcid s) (has_bearer lcid t) (with_submitted None s) (with_submitted None t)
-    (bearer_same a lcid s t h) (none_submitted a s t h)
+    judged_both a (has_bearer lcid s) (has_bearer lcid t) s t (bearer_same a lcid s t h) h
 told_record a one g p s t h = h
 
 -- by the accounts before it
 record_both : (a : Accounts) (one : Record) (g : Giving given.History) (s : Sending Events) (t : Sending SentOctets)
     → AreAlike a s t
-    → AreAlike a (after_record histories given.histories one g s)
-    (after_record accounts given.accounts one (giving_image g) t)
+    → AreAlike a (record_told histories given.histories one g s)
+    (record_told accounts given.accounts one (giving_image g) t)
 record_both a one g s t h =
-    subst (λ (p : Option PassedSdu). AreAlike a (after_record histories given.histories one g s)
-    (record_told accounts given.accounts one (giving_image g) p (with_passed None t)))
+    subst (λ (p : Option PassedSdu). AreAlike a (record_told histories given.histories one g s)
+    (tells accounts given.accounts one (giving_image g) p (with_passed None t)))
     (sym (ap (λ (x : Sending SentOctets). x.passed) h.is))
     (told_record a one g s.passed (with_passed None s) (with_passed None t) (passed_both a None None s t refl h))
 
 pub record_alike : (one : Record) (g : Giving given.History) (s : Sending Events) (t : Sending SentOctets)
     → AreAlike g.kept.journal.flows s t
-    → AreAlike (after_given given.histories one g).kept.journal.flows (after_record histories given.histories one g s)
-    (after_record accounts given.accounts one (giving_image g) t)
+    → AreAlike (after_given given.histories one g).kept.journal.flows
+    (after_record histories given.histories one (settled_given given.histories one g) s)
+    (after_record accounts given.accounts one (giving_image (settled_given given.histories one g)) t)
 record_alike one g s t h =
-    goes_on one g (after_record histories given.histories one g s)
-    (after_record accounts given.accounts one (giving_image g) t) (record_both g.kept.journal.flows one g s t h)
+    let before = settled_given given.histories one g in
+    goes_on one g (after_record histories given.histories one before s)
+    (after_record accounts given.accounts one (giving_image before) t)
+    (record_both g.kept.journal.flows one before (settled one s) (settled one t)
+    (settled_both g.kept.journal.flows one s t h))

@@ -41,7 +41,7 @@ use Rattle.journal_sent.specs.SentFlows.{SentFlow, Cover, is_data, marks_in, is_
 use Rattle.journal_sent.specs.SentFlows.{flow_judges}
 use Rattle.journal_sent.specs.Sending.{Flows, Sending, flow_at, changed_on, flows_of, is_known}
 use Rattle.journal_sent.specs.Sending.{has_bearer, lcid_in, sdu_of, named_of, acked_at, after_line}
-use Rattle.journal_sent.specs.Sending.{after_record, all_sending}
+use Rattle.journal_sent.specs.Sending.{settled, after_record, all_sending}
 
 -- the octets of a life, and their marks, by what happened to them
 abbrev pub Sent : Type 0
@@ -203,7 +203,7 @@ abbrev pub DiscardedOf : Layout → Flow → Type 0
 DiscardedOf (layouts.Am (pdcp.Am bits)) f = Unit {0}
 DiscardedOf layout f = 0 < length f.waiting
 
--- ---- a record, by what those before it told
+-- ---- a record, by what its line and those before it told
 
 abbrev pub IsRightEvent : Side → Event → Given → AllSent → Type 0
 IsRightEvent side (events.Take lcid count len) j s = IfSome (flow_at lcid (flows_of side s))
@@ -238,9 +238,9 @@ RecordTest = Record → Given → AllSent → Type 0
 abbrev pub EachRecord : RecordTest → List Record → Given → AllSent → Type 0
 EachRecord right [] j s = Unit {0}
 EachRecord right (one ∷ told) j s =
-    right one j s
+    right one (giving.settled given.histories one j) (settled one s)
     × EachRecord right told (giving.after_record given.histories one j)
-    (after_record histories given.histories one j s)
+    (after_record histories given.histories one (giving.settled given.histories one j) s)
 
 abbrev pub EachGroup : RecordTest → List Group → Type 0
 EachGroup right [] = Unit {0}

@@ -20,6 +20,7 @@ use Rattle.air_record.specs.declared.line.Line.TheVariants as lines
 use Rattle.air_record.specs.declared.record.Record.{Record}
 use Rattle.air_record.specs.declared.record.Record.TheVariants as records
 use Rattle.air_text.specs.Groups.{Group}
+use Rattle.promises.specs.Flows.{refuses}
 use Rattle.pdu_show.specs.Kinds.{layout_of}
 use Rattle.journal_flows.specs.Gathering.{sdus_read}
 use Rattle.journal_flows.specs.Accounts.{account_at}
@@ -60,7 +61,7 @@ pub record Sending (T : Type 0) : Type 0 where
   pub named_ue : List NamedPdu
   -- the SDU of the record just before, where that is a `take` on a transparent bearer
   pub passed : Option PassedSdu
-  -- the SDU of the group's line, while no record refuses it: it is submitted as its group ends
+  -- the SDU of the group's line, until it is submitted or refused
   pub submitted : Option SubmittedSdu
   -- the keys of the life that runs; those of the next one, in a group of a handover
   pub keys : Keys
@@ -126,6 +127,29 @@ line_told k line s = s
 abbrev pub after_line : {T : Type 0} → Keeper T → Line → Sending T → Sending T
 after_line k line s =
     line_told k line (record s { passed = None; submitted = submitted_by line })
+
+-- ---- an SDU is submitted
+
+-- The SDU of a `submit` line is submitted with its line, before the records of its group, unless a
+-- `refused` record of its side and channel stands directly behind the line; a `refused` record
+-- elsewhere says nothing. So what becomes of it is told by the first record of the group, or by its
+-- end where it has none.
+
+-- what is left to be submitted by the record directly behind the line
+abbrev pub unrefused : Record → Option SubmittedSdu → Option SubmittedSdu
+unrefused one None = None
+unrefused one (Some d) = if refuses d.side d.lcid one then None else Some d
+
+abbrev pub submits_own : {T : Type 0} → Option SubmittedSdu → Sending T → Sending T
+submits_own None s = s
+submits_own (Some d) s = changed d.side d.lcid (flow_submitted d.octets) s
+
+abbrev pub released : {T : Type 0} → Option SubmittedSdu → Sending T → Sending T
+released sdu s = submits_own sdu (record s { submitted = None })
+
+-- before a record, which may refuse it
+abbrev pub settled : {T : Type 0} → Record → Sending T → Sending T
+settled one s = released (unrefused one s.submitted) s
 
 -- ---- records of a flow stand behind the line of its bearer
 
@@ -262,27 +286,26 @@ block_told k direction octets j s =
 
 -- ---- a record, by what PDCP gives RLC before it
 
-abbrev pub record_told : {T X : Type 0} → Keeper T → given.Keeper X → Record → Giving X
+abbrev pub tells : {T X : Type 0} → Keeper T → given.Keeper X → Record → Giving X
     → Option PassedSdu → Sending T → Sending T
-record_told k g (records.Of side event) j passed s =
+tells k g (records.Of side event) j passed s =
     event_told k g side event j passed (judged (is_known (lcid_in event) s) s)
-record_told k g (records.Block direction process true version octets) j passed s =
+tells k g (records.Block direction process true version octets) j passed s =
     block_told k direction octets j s
-record_told k g (records.Looped lcid octets) j passed s =
+tells k g (records.Looped lcid octets) j passed s =
     changed Ue lcid (flow_submitted octets) (judged (has_bearer lcid s) s)
-record_told k g (records.Refused side lcid why) j passed s =
-    judged (has_bearer lcid s) (record s { submitted = None })
-record_told k g one j passed s = s
+tells k g (records.Refused side lcid why) j passed s = judged (has_bearer lcid s) s
+tells k g one j passed s = s
+
+abbrev pub record_told : {T X : Type 0} → Keeper T → given.Keeper X → Record → Giving X
+    → Sending T → Sending T
+record_told k g one j s = tells k g one j s.passed (record s { passed = None })
 
 abbrev pub after_record : {T X : Type 0} → Keeper T → given.Keeper X → Record → Giving X
     → Sending T → Sending T
-after_record k g one j s = record_told k g one j s.passed (record s { passed = None })
+after_record k g one j s = record_told k g one j (settled one s)
 
 -- ---- the end of a group, by what PDCP gives RLC behind it
-
-abbrev pub submits_last : {T : Type 0} → Option SubmittedSdu → Sending T → Sending T
-submits_last None s = s
-submits_last (Some d) s = changed d.side d.lcid (flow_submitted d.octets) s
 
 abbrev pub renewed_by : {T : Type 0} → Keeper T → Option Keys → SentFlow T → SentFlow T
 renewed_by k None f = f
@@ -313,7 +336,7 @@ closed k j s = record {
 }
 
 abbrev pub after_group : {T X : Type 0} → Keeper T → Giving X → Sending T → Sending T
-after_group k j s = closed k j (submits_last s.submitted s)
+after_group k j s = closed k j (released s.submitted s)
 
 -- ---- a journal, group by group, beside what PDCP gives; the newest group stands first
 
@@ -321,7 +344,8 @@ abbrev pub records_told : {T X : Type 0} → Keeper T → given.Keeper X → Lis
     → Sending T → Sending T
 records_told k g [] j s = s
 records_told k g (one ∷ told) j s =
-    records_told k g told (giving.after_record g one j) (after_record k g one j s)
+    records_told k g told (giving.after_record g one j)
+    (after_record k g one (giving.settled g one j) s)
 
 abbrev pub sending_within : {T X : Type 0} → Keeper T → given.Keeper X → Group → Giving X
     → Sending T → Sending T

@@ -7,7 +7,7 @@ ghost use Rattle.promises.specs.RightForm.{sdus_in};
 ghost use Rattle.journal_given.specs.Supplies.{accounts as supplies};
 ghost use Rattle.journal_sent.specs.SentPdus.{accounts};
 
-use crate::events::{lcid_in, passed_to, sdu_of};
+use crate::events::{lcid_in, passed_to, sdu_of, unrefused};
 use crate::flow::begun;
 use crate::flows::{self, Flows};
 use crate::verdict::Verdict;
@@ -91,7 +91,7 @@ impl Model for SentChecker {
 }
 
 impl SentChecker {
-    ghost use Rattle.std.specs.Prelude.{[], None};
+    ghost use Rattle.std.specs.Prelude.{[]};
     ghost use Rattle.journal_sent.specs.SentFlows.{take_right, flow_taken, discard_right};
     ghost use Rattle.journal_sent.specs.SentFlows.{flow_discarded, flow_reported, acked_by};
     ghost use Rattle.journal_sent.specs.Sending.{nothing_sending, flows_of, flow_at, changed};
@@ -99,8 +99,8 @@ impl SentChecker {
     ghost use Rattle.journal_sent.specs.Sending.{after_line, has_bearer, is_known, right_in};
     ghost use Rattle.journal_sent.specs.Sending.{passed_in, take_told, gives_reports, named_of};
     ghost use Rattle.journal_sent.specs.Sending.{with_named, names, event_told, pdu_told};
-    ghost use Rattle.journal_sent.specs.Sending.{pdus_told, block_told, record_told};
-    ghost use Rattle.journal_sent.specs.Sending.{after_record, submits_last, closed, after_group};
+    ghost use Rattle.journal_sent.specs.Sending.{pdus_told, block_told, tells, after_record};
+    ghost use Rattle.journal_sent.specs.Sending.{submits_own, settled, closed, after_group};
     ghost use Rattle.journal_sent.specs.Judging.{verdict_at, flows_judged};
 
     /// Before the first line. It takes no memory.
@@ -208,7 +208,8 @@ impl SentChecker {
         flows::set(&mut self.ue, lcid, Some(up));
     }
 
-    /// A record of the group, which isn't its first. `given` hasn't seen it yet.
+    /// A record of the group, which isn't its first. `given.settle(one)` was called, and `given`
+    /// hasn't seen it yet.
     ///
     /// `NoMemory` where there is none, where a block has 2^28 octets or more, and where a counter
     /// ends. Behind it nothing is known.
@@ -216,8 +217,30 @@ impl SentChecker {
         ensures { OnOk result
             (self.new ≡ after_record accounts supplies one.now given.now self.old) }
     {
+        self.settle(one)?;
         let passed = self.passed.take();
         self.tell(one, given, passed)
+    }
+
+    // Before a record, which may refuse the SDU of the group's line.
+    fn settle(&mut self, one: &Record) -> Result<(), NoMemory>
+        ensures { OnOk result (self.new ≡ settled one.now self.old) }
+    {
+        let sdu = unrefused(one, self.submitted.take());
+        self.submit_own(sdu)
+    }
+
+    // The SDU of the group's line is submitted, where one is left.
+    fn submit_own(&mut self, sdu: Option<SubmittedSdu>) -> Result<(), NoMemory>
+        ensures { OnOk result (self.new ≡ submits_own sdu self.old) }
+    {
+        let Some(SubmittedSdu { side, lcid, octets }) = sdu else {
+            return Ok(());
+        };
+        match side {
+            Side::Nb => flows::submit(&mut self.nb, lcid, octets),
+            Side::Ue => flows::submit(&mut self.ue, lcid, octets),
+        }
     }
 
     fn tell(
@@ -227,7 +250,7 @@ impl SentChecker {
         passed: Option<PassedSdu>,
     ) -> Result<(), NoMemory>
         ensures { OnOk result (self.new
-            ≡ record_told accounts supplies one.now given.now passed self.old) }
+            ≡ tells accounts supplies one.now given.now passed self.old) }
     {
         match one {
             Record::Of { side, event } => {
@@ -245,7 +268,6 @@ impl SentChecker {
                 flows::submit_copy(&mut self.ue, *lcid, octets.as_slice())
             }
             Record::Refused { lcid, .. } => {
-                self.submitted = None;
                 self.sent = self.sent && self.has_bearer(*lcid);
                 Ok(())
             }
@@ -517,22 +539,9 @@ impl SentChecker {
     pub fn end_line(&mut self, given: &JournalGiven) -> Result<(), NoMemory>
         ensures { OnOk result (self.new ≡ after_group accounts given.now self.old) }
     {
-        self.submit_last()?;
+        let sdu = self.submitted.take();
+        self.submit_own(sdu)?;
         self.close(given)
-    }
-
-    // The SDU of the group's line is submitted, where no record refused it.
-    fn submit_last(&mut self) -> Result<(), NoMemory>
-        ensures { OnOk result (self.new
-            ≡ record (submits_last self.old.submitted self.old) { submitted = None }) }
-    {
-        let Some(SubmittedSdu { side, lcid, octets }) = self.submitted.take() else {
-            return Ok(());
-        };
-        match side {
-            Side::Nb => flows::submit(&mut self.nb, lcid, octets),
-            Side::Ue => flows::submit(&mut self.ue, lcid, octets),
-        }
     }
 
     fn close(&mut self, given: &JournalGiven) -> Result<(), NoMemory>

@@ -1,23 +1,35 @@
 // What records say of what they are about.
 ghost use Rattle.std.specs.Prelude.{◌≡◌, option_copied};
-ghost use Rattle.bearer_types.specs.Sides.{is_same};
+ghost use Rattle.promises.specs.Flows.{refuses};
 ghost use Rattle.journal_given.specs.Supplies.{accounts as supplies};
-ghost use Rattle.journal_sent.specs.Sending.{lcid_in, sdu_of, passed_to};
+ghost use Rattle.journal_sent.specs.Sending.{lcid_in, sdu_of, passed_to, unrefused};
 
-use crate::checker::PassedSdu;
+use crate::checker::{PassedSdu, SubmittedSdu};
+use air_record::Record;
 use bearer_types::Event;
 use journal_given::JournalGiven;
 use l2_bits::Bytes;
 use l2_types::Side;
 
-fn is_same(a: Side, b: Side) -> bool
-    ensures { result ≡ is_same a b }
+// Whether a record refuses the SDU of a line, directly behind it.
+fn refuses(one: &Record, sdu: &SubmittedSdu) -> bool
+    ensures { result ≡ refuses sdu.now.side sdu.now.lcid one.now }
 {
-    match (a, b) {
-        (Side::Nb, Side::Nb) => true,
-        (Side::Ue, Side::Ue) => true,
+    match one {
+        Record::Refused { side, lcid, .. } => *side == sdu.side && *lcid == sdu.lcid,
         _ => false,
     }
+}
+
+// What the record directly behind a line leaves of the line's SDU.
+pub(crate) fn unrefused(one: &Record, sdu: Option<SubmittedSdu>) -> Option<SubmittedSdu>
+    ensures { result ≡ unrefused one.now sdu }
+{
+    let sdu = sdu?;
+    if refuses(one, &sdu) {
+        return None;
+    }
+    Some(sdu)
 }
 
 // The SDU that was passed on just before on a side's channel.
@@ -27,7 +39,7 @@ pub(crate) fn passed_to(side: Side, lcid: u8, passed: Option<PassedSdu>) -> Opti
     let Some(passed) = passed else {
         return None;
     };
-    if is_same(side, passed.side) && passed.lcid == lcid {
+    if side == passed.side && passed.lcid == lcid {
         Some(passed.octets)
     } else {
         None
