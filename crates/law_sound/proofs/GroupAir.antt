@@ -96,12 +96,12 @@ group_heard from g past p =
     (hears (sent_by from) p (records.Line g.number g.line) (processes from past p))
 
 -- in a handover nothing flies
-pub handover_rests : (line : Line) (t : ℕ) (told : List Record) → is_handover line ≡ true
+handover_rests : (line : Line) (t : ℕ) (told : List Record) → is_handover line ≡ true
     → HasItsTtis t (part_of_line line) told → told ≡ []
 handover_rests (lines.Handover user rrc integrity) t told e h = h
 handover_rests line t told e h = absurd (let bad = e in cc)
 
-pub handover_empties : (line : Line) → is_handover line ≡ true → empties line ≡ true
+handover_empties : (line : Line) → is_handover line ≡ true → empties line ≡ true
 handover_empties (lines.Handover user rrc integrity) e = refl
 handover_empties line e = absurd (let bad = e in cc)
 
@@ -121,25 +121,33 @@ group_flown from g past h knows =
     (λ p low. subst (λ (k : Heard). AreResent (visits (g ∷ past)) (deeds_of k.flights)) (group_heard from g past p)
     (resent_of from g past h p low))
 
+-- behind a handover no process has a block
+pub none_moved : (from : Side) (g : Group) (past : List Group) → GroupIsRight g past → (p : ℕ) (octets : List ℕ)
+    → is_handover g.line ≡ true
+    → last_block (deeds_of (processes from (g ∷ past) p).flights) ≡ Some octets → ⊥
+none_moved from g past h p octets is e = none (sym (ap (λ (fs : List Flight). last_block (deeds_of fs)) flights) ∙ e)
+  where
+    none : None ≡ Some octets → ⊥
+    none e' = cc
+
+    empty : filter is_of_time g.events ≡ []
+    empty = handover_rests g.line (ttis past) (filter is_of_time g.events) is h.ttis_are
+
+    flights : (processes from (g ∷ past) p).flights ≡ []
+    flights =
+        ap (λ (k : Heard). k.flights) (group_heard from g past p)
+        ∙ ap (λ (l : List Record). (behind from l (behind_line from g.number g.line (processes from past)) p).flights)
+        empty
+        ∙ ap (λ (c : Bool). if c then [] else (processes from past p).flights) (handover_empties g.line is)
+
 group_knows : (from : Side) (g : Group) (past : List Group) → GroupIsRight g past
     → Knows (processes from past) (blocks_behind from past)
     → Knows (processes from (g ∷ past)) (blocks_behind from (g ∷ past))
 group_knows from g past h knows p octets low e = by (is_handover g.line) refl
   where
-    none : (o : List ℕ) → None ≡ Some o → ⊥
-    none o e = cc
-
     by : (b : Bool) → is_handover g.line ≡ b
         → (if b then None else (all_air from g.events (begun from past)).blocks p) ≡ Some octets
-    by true is =
-        let empty : filter is_of_time g.events ≡ [] =
-        handover_rests g.line (ttis past) (filter is_of_time g.events) is h.ttis_are in
-        let flights : (processes from (g ∷ past) p).flights ≡ [] =
-        ap (λ (k : Heard). k.flights) (group_heard from g past p)
-        ∙ ap (λ (l : List Record). (behind from l (behind_line from g.number g.line (processes from past)) p).flights)
-        empty
-        ∙ ap (λ (c : Bool). if c then [] else (processes from past p).flights) (handover_empties g.line is) in
-        absurd (none octets (sym (ap (λ (fs : List Flight). last_block (deeds_of fs)) flights) ∙ e))
+    by true is = absurd (none_moved from g past h p octets is e)
     by false is =
         ap (λ (y : Flying). y.blocks p) (air_filtered from g.events (begun from past))
         ∙ (group_flown from g past h knows).knows p octets low

@@ -14,14 +14,14 @@ use Rattle.air_record.specs.declared.record.Record.TheVariants as records
 use Rattle.air_text.specs.Groups.{Group, history}
 use Rattle.law_words.specs.Sequences.{◌then◌}
 use Rattle.promises.specs.Air.{InTurn, is_tti, ttis}
-use Rattle.promises.specs.Heard.{Heard, Flight, empties, deeds_of, visits}
+use Rattle.promises.specs.Heard.{Heard, empties, deeds_of, visits}
 use Rattle.promises.specs.Parts.{Part, Submits, Passes, Drains, Rests, part_of_line, is_handover}
 use Rattle.promises.specs.RightAir.{FliesInDrain, is_of_time, Ttis, HasItsTtis, AirIsRight, GroupIsRight}
 use Rattle.journal_air.proofs.Tellings.{AllAir}
 use Rattle.law_sound.specs.FewVisits.{VisitsAreFew}
 use Rattle.law_sound.proofs.Flown.{IsTtiTold, Processes, behind, AllResent}
-use Rattle.law_sound.proofs.GroupAir.{processes, passes_told, drains_told, behind_line, group_heard, handover_rests}
-use Rattle.law_sound.proofs.GroupAir.{handover_empties, resent_of}
+use Rattle.law_sound.proofs.GroupAir.{processes, passes_told, drains_told, behind_line, group_heard}
+use Rattle.law_sound.proofs.GroupAir.{none_moved, resent_of}
 use Rattle.law_sound.proofs.Pending.{Pending, none_pending, settled, IsUnder}
 use Rattle.law_sound.proofs.Young.{Ages, none_aged, all_age, AreYoung, Follows, IsTtiYoung, ttis_young, one_tti_young}
 use Rattle.law_sound.proofs.Young.{young_filtered, age_filtered}
@@ -128,21 +128,10 @@ group_follows : (from : Side) (g : Group) (past : List Group) → GroupIsRight g
     → Follows (ttis (g ∷ past)) (processes from (g ∷ past)) (ages from (g ∷ past)).count
 group_follows from g past h few before p octets low e = by (is_handover g.line) refl
   where
-    none : (o : List ℕ) → None ≡ Some o → ⊥
-    none o e = cc
-
     by : (b : Bool) → is_handover g.line ≡ b
         → (if b then none_aged else all_age from g.events (ages from past)).count p + 8
         ≤ (ttis (g ∷ past) + 7 - p) % 8 + 1 + 8 * harq.visits (deeds_of (processes from (g ∷ past) p).flights)
-    by true is =
-        let empty : filter is_of_time g.events ≡ [] =
-        handover_rests g.line (ttis past) (filter is_of_time g.events) is h.ttis_are in
-        let flights : (processes from (g ∷ past) p).flights ≡ [] =
-        ap (λ (k : Heard). k.flights) (group_heard from g past p)
-        ∙ ap (λ (l : List Record). (behind from l (behind_line from g.number g.line (processes from past)) p).flights)
-        empty
-        ∙ ap (λ (c : Bool). if c then [] else (processes from past p).flights) (handover_empties g.line is) in
-        absurd (none octets (sym (ap (λ (fs : List Flight). last_block (deeds_of fs)) flights) ∙ e))
+    by true is = absurd (none_moved from g past h p octets is e)
     by false is =
         let y = (group_young from g past h few before).follows p octets low
         (sym (ap (λ (k : Heard). last_block (deeds_of k.flights)) (group_heard from g past p)) ∙ e) in
