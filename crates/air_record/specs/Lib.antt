@@ -1,3 +1,4 @@
 pub mod Text
 pub mod Outcomes
 pub mod Cells
+pub mod Submissions

@@ -11,6 +11,7 @@ mod printing;
 mod record;
 mod short_text;
 mod shown;
+mod submission;
 mod word;
 
 pub use boxed::BoxedLine;
@@ -18,3 +19,4 @@ pub use keys::no_keys;
 pub use line::{Fate, Line, Outcome};
 pub use printing::{append_accepted, append_record, print, print_line};
 pub use record::{Arrived, Lens, NoPlace, Record, State};
+pub use submission::Submission;

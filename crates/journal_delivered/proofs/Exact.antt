@@ -14,6 +14,7 @@ use Rattle.bearer_types.specs.declared.config.BearerConfig.{BearerConfig}
 use Rattle.bearer_types.specs.Sides.{other}
 use Rattle.air_record.specs.declared.line.Line.{Line}
 use Rattle.air_record.specs.declared.line.Line.TheVariants as lines
+use Rattle.air_record.specs.Submissions.{submitted_by}
 use Rattle.air_text.specs.Groups.{Group}
 use Rattle.promises.specs.Flows.{delivered}
 use Rattle.journal_lives.specs.FlowLives.{lives_of}
@@ -29,7 +30,7 @@ use Rattle.journal_delivered.specs.RightDelivery.{is_acked_data, first_by, since
 use Rattle.journal_delivered.specs.RightDelivery.{IsDelivered, DeliveredIsRight}
 use Rattle.journal_delivered.specs.DeliveryChecking.{AwaitedSdus, Checking, nothing_checked, with_end, begun}
 use Rattle.journal_delivered.specs.DeliveryChecking.{after_line, after_bearer, all_ended, is_right_on, all_right}
-use Rattle.journal_delivered.specs.DeliveryChecking.{released, submitted_by, next_of, came_at, ended, after_group}
+use Rattle.journal_delivered.specs.DeliveryChecking.{released, next_of, came_at, ended, after_group}
 use Rattle.journal_delivered.specs.DeliveryChecking.{checked, all_checked}
 use Rattle.journal_delivered.proofs.Lists.{Sdus}
 use Rattle.journal_delivered.proofs.Given.{came_below}

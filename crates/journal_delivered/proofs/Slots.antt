@@ -15,15 +15,16 @@ use Rattle.air_record.specs.declared.line.Line.{Line}
 use Rattle.air_record.specs.declared.line.Line.TheVariants as lines
 use Rattle.air_record.specs.declared.record.Record.{Record}
 use Rattle.air_record.specs.declared.record.Record.TheVariants as records
-use Rattle.promises.specs.Flows.{refuses, is_refused_at_once}
+use Rattle.promises.specs.Flows.{is_refused_at_once}
 use Rattle.promises.specs.Records.{is_up, sdu_of, ups_in}
 use Rattle.journal_takes.specs.TakeEvents.{TakeEvent, SduSubmitted, SduDiscarded, PduTaken}
 use Rattle.journal_delivered.specs.RightDelivery.{record_tells, records_tell}
-use Rattle.journal_delivered.specs.declared.delivered_checker.SubmittedSdu.{SubmittedSdu}
+use Rattle.air_record.specs.declared.submission.Submission.{Submission}
+use Rattle.air_record.specs.Submissions.{refuses, submitted_by, unrefused}
 use Rattle.journal_delivered.specs.DeliveryChecking.{AwaitedSdus, Checking}
 use Rattle.journal_delivered.specs.DeliveryChecking.{with_sdu, with_taken, with_discarded, with_up}
 use Rattle.journal_delivered.specs.DeliveryChecking.{changed_on, changed, after_event, record_told}
-use Rattle.journal_delivered.specs.DeliveryChecking.{unrefused, released, submitted_by, checked}
+use Rattle.journal_delivered.specs.DeliveryChecking.{released, checked}
 use Rattle.journal_delivered.proofs.Lists.{Sdus}
 use Rattle.journal_delivered.proofs.Awaiting.{Follows, judged_sdu, judged_taken, judged_discarded, follows_up}
 
@@ -191,7 +192,7 @@ told_stays (one ∷ told) c =
 -- ---- the SDU of the group's line
 
 -- what the group's records leave of it
-abbrev pub left_of : List Record → Option SubmittedSdu → Option SubmittedSdu
+abbrev pub left_of : List Record → Option Submission → Option Submission
 left_of [] sdu = sdu
 left_of (one ∷ told) sdu = unrefused one sdu
 
@@ -199,16 +200,16 @@ pub record Releases (c d : Checking) : Type 0 where
   pub right : d.right ≡ c.right
   pub submitted : d.submitted ≡ None
 
-pub releases : (sdu : Option SubmittedSdu) (c : Checking) → Releases c (released sdu c)
+pub releases : (sdu : Option Submission) (c : Checking) → Releases c (released sdu c)
 releases None c = record { right = refl; submitted = refl }
 releases (Some s) c =
     let x = changed_stays s.side s.lcid (with_sdu s.octets) (record c { submitted = None }) in
     record { right = x.right; submitted = x.submitted }
 
-none_released : (sdu : Option SubmittedSdu) (c : Checking) → sdu ≡ None → c.submitted ≡ None → released sdu c ≡ c
+none_released : (sdu : Option Submission) (c : Checking) → sdu ≡ None → c.submitted ≡ None → released sdu c ≡ c
 none_released sdu c e f =
-    ap (λ (o : Option SubmittedSdu). released o c) e
-    ∙ ap (λ (o : Option SubmittedSdu). record c { submitted = o }) (sym f)
+    ap (λ (o : Option Submission). released o c) e
+    ∙ ap (λ (o : Option Submission). record c { submitted = o }) (sym f)
 
 plain : (told : List Record) (c : Checking) → c.submitted ≡ None → checked told c ≡ all_told told c
 plain [] c e = refl
@@ -248,7 +249,7 @@ none_sizes : (c : Checking) → Sizes c → Sizes (released None c)
 none_sizes c size Nb = size Nb
 none_sizes c size Ue = size Ue
 
-pub released_sizes : (sdu : Option SubmittedSdu) (c : Checking) → Sizes c → Sizes (released sdu c)
+pub released_sizes : (sdu : Option Submission) (c : Checking) → Sizes c → Sizes (released sdu c)
 released_sizes None c size = none_sizes c size
 released_sizes (Some s) c size =
     changed_sizes s.side s.lcid (with_sdu s.octets) (released None c) (none_sizes c size)
@@ -272,7 +273,7 @@ pub own_at : (s : Side) (line : Line) (told : List Record) (l : ℕ) (c : Checki
     ≡ option_map (given_by s l line told) (slot_at s l c)
 own_at s (lines.Submit side lcid octets) told l c size low = by told
   where
-    own : Option SubmittedSdu
+    own : Option Submission
     own = Some (record { side = side; lcid = lcid; octets = octets })
 
     gives : Bool → AwaitedSdus → AwaitedSdus

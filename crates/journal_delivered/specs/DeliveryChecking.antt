@@ -15,14 +15,14 @@ use Rattle.air_record.specs.declared.line.Line.{Line}
 use Rattle.air_record.specs.declared.line.Line.TheVariants as lines
 use Rattle.air_record.specs.declared.record.Record.{Record}
 use Rattle.air_record.specs.declared.record.Record.TheVariants as records
+use Rattle.air_record.specs.declared.submission.Submission.{Submission}
+use Rattle.air_record.specs.Submissions.{submitted_by, unrefused}
 use Rattle.air_text.specs.Groups.{Group}
-use Rattle.promises.specs.Flows.{refuses}
 use Rattle.journal_lives.specs.FlowLives.{FlowLives}
 use Rattle.journal_flows.specs.Gathering.{MayTake}
 use Rattle.journal_flows.specs.Accounts.{Keeping, account_at, all_kept}
 use Rattle.journal_delivered.specs.declared.awaited_sdus.SduTold.{SduTold}
 use Rattle.journal_delivered.specs.declared.awaited_sdus.SduTold.TheVariants as sdus
-use Rattle.journal_delivered.specs.declared.delivered_checker.SubmittedSdu.{SubmittedSdu}
 use Rattle.journal_delivered.specs.RightDelivery.{is_acked_data}
 
 -- ---- the SDUs of one direction of a bearer
@@ -145,7 +145,7 @@ pub record Checking : Type 0 where
   pub ue : List (Option AwaitedSdus)
   pub right : Bool
   -- the SDU of the group's line, until it is submitted or refused
-  pub submitted : Option SubmittedSdu
+  pub submitted : Option Submission
 
 abbrev pub nothing_checked : Checking
 nothing_checked = record { nb = no_channels; ue = no_channels; right = true; submitted = None }
@@ -161,16 +161,11 @@ changed Ue lcid f c = record c { ue = changed_on lcid f c.ue }
 -- elsewhere says nothing. So what becomes of it is told by the first record of the group, or by its
 -- end where it has none.
 
--- what is left to be submitted by the record directly behind the line
-abbrev pub unrefused : Record → Option SubmittedSdu → Option SubmittedSdu
-unrefused one None = None
-unrefused one (Some s) = if refuses s.side s.lcid one then None else Some s
-
-abbrev pub submits_own : Option SubmittedSdu → Checking → Checking
+abbrev pub submits_own : Option Submission → Checking → Checking
 submits_own None c = c
 submits_own (Some s) c = changed s.side s.lcid (with_sdu s.octets) c
 
-abbrev pub released : Option SubmittedSdu → Checking → Checking
+abbrev pub released : Option Submission → Checking → Checking
 released sdu c = submits_own sdu (record c { submitted = None })
 
 -- ---- a record
@@ -203,11 +198,6 @@ after_bearer config c = record c {
 abbrev pub bearers_by : Line → Checking → Checking
 bearers_by (lines.Bearer config options) c = after_bearer config c
 bearers_by line c = c
-
-abbrev pub submitted_by : Line → Option SubmittedSdu
-submitted_by (lines.Submit side lcid octets) =
-    Some (record { side = side; lcid = lcid; octets = octets })
-submitted_by line = None
 
 abbrev pub after_line : Line → Checking → Checking
 after_line line c = record (bearers_by line c) { submitted = submitted_by line }

@@ -1,47 +1,18 @@
 // The checker: a journal's lines and records, one by one.
-ghost use Rattle.std.specs.Prelude.{◌≡◌, IfOk, OnOk};
+ghost use Rattle.std.specs.Prelude.{◌≡◌, OnOk, Some};
+ghost use Rattle.air_record.specs.Submissions.{unrefused};
 ghost use Rattle.bearer_types.specs.Sides.{other};
-ghost use Rattle.promises.specs.Flows.{refuses};
-ghost use Rattle.journal_delivered.specs.DeliveryChecking.{begun, unrefused};
+ghost use Rattle.journal_delivered.specs.DeliveryChecking.{begun};
 
 use crate::awaited_channels::{self, Channels};
 use crate::awaited_sdus::{AwaitedSdus, SduTold};
-use air_record::{Line, Record};
+use air_record::{Line, Record, Submission};
 use bearer_types::{BearerConfig, Event, other};
 use journal_flows::JournalFlows;
-use l2_bits::{Bytes, NoMemory};
+use l2_bits::NoMemory;
 use l2_types::{Kind, Side};
 use std::alloc::Global;
 use std::marker::Model;
-
-// An SDU of a side's channel that a line submits.
-#[derive(Drop)]
-pub(crate) struct SubmittedSdu {
-    side: Side,
-    lcid: u8,
-    octets: Bytes,
-}
-
-// Whether a record refuses the SDU of a line, directly behind it.
-fn refuses(one: &Record, sdu: &SubmittedSdu) -> bool
-    ensures { result ≡ refuses sdu.now.side sdu.now.lcid one.now }
-{
-    match one {
-        Record::Refused { side, lcid, .. } => *side == sdu.side && *lcid == sdu.lcid,
-        _ => false,
-    }
-}
-
-// What the record directly behind a line leaves of the line's SDU.
-fn unrefused(one: &Record, sdu: Option<SubmittedSdu>) -> Option<SubmittedSdu>
-    ensures { result ≡ unrefused one.now sdu }
-{
-    let sdu = sdu?;
-    if refuses(one, &sdu) {
-        return None;
-    }
-    Some(sdu)
-}
 
 // A bearer's SDUs in one direction, where it has acknowledged data.
 fn begun(alloc: Global, config: &BearerConfig) -> Option<AwaitedSdus>
@@ -64,7 +35,7 @@ pub struct DeliveredChecker {
     nb: Channels,
     ue: Channels,
     right: bool,
-    submitted: Option<SubmittedSdu>,
+    submitted: Option<Submission>,
 }
 
 impl Model for DeliveredChecker {
@@ -82,11 +53,11 @@ impl Model for DeliveredChecker {
 
 impl DeliveredChecker {
     ghost use Rattle.journal_delivered.specs.DeliveryChecking.{nothing_checked, after_line};
-    ghost use Rattle.journal_delivered.specs.DeliveryChecking.{bearers_by, submitted_by};
+    ghost use Rattle.journal_delivered.specs.DeliveryChecking.{bearers_by};
     ghost use Rattle.journal_delivered.specs.DeliveryChecking.{after_record, record_told};
     ghost use Rattle.journal_delivered.specs.DeliveryChecking.{after_event, after_bearer, changed};
-    ghost use Rattle.journal_delivered.specs.DeliveryChecking.{submits_own, ended, after_group};
-    ghost use Rattle.journal_delivered.specs.DeliveryChecking.{with_told};
+    ghost use Rattle.journal_delivered.specs.DeliveryChecking.{submits_own, released, ended};
+    ghost use Rattle.journal_delivered.specs.DeliveryChecking.{after_group, with_told};
 
     /// Before the first line. It takes no memory.
     pub fn new(alloc: Global) -> DeliveredChecker
@@ -108,30 +79,30 @@ impl DeliveredChecker {
         if let Line::Bearer { config, .. } = line {
             self.begin(config);
         }
-        self.submitted = self.submitted_by(line)?;
+        self.submitted = Submission::of(self.alloc, line)?;
         Ok(())
-    }
-
-    fn submitted_by(&self, line: &Line) -> Result<Option<SubmittedSdu>, NoMemory>
-        ensures { IfOk result (λ s. s ≡ submitted_by line.now) }
-    {
-        match line {
-            Line::Submit { side, lcid, octets } => Ok(Some(SubmittedSdu {
-                side: *side,
-                lcid: *lcid,
-                octets: Bytes::from_slice(self.alloc, octets.as_slice())?,
-            })),
-            _ => Ok(None),
-        }
     }
 
     /// A record of the group, which isn't its first. Behind an `Err` nothing is known.
     pub fn see(&mut self, one: &Record) -> Result<(), NoMemory>
         ensures { OnOk result (self.new ≡ after_record one.now self.old) }
     {
-        let sdu = unrefused(one, self.submitted.take());
-        self.submit_own(sdu)?;
+        self.settle(one)?;
         self.tell_record(one)
+    }
+
+    // Before a record, which may refuse the SDU of the group's line.
+    fn settle(&mut self, one: &Record) -> Result<(), NoMemory>
+        ensures { OnOk result
+            (self.new ≡ released (unrefused one.now self.old.submitted) self.old) }
+    {
+        let Some(sdu) = self.submitted.take() else {
+            return Ok(());
+        };
+        if one.refuses(sdu.side, sdu.lcid) {
+            return Ok(());
+        }
+        self.submit(&sdu)
     }
 
     /// The group has ended: with the next `line` record, the first `sum`, or the journal. `flows`
@@ -140,8 +111,9 @@ impl DeliveredChecker {
     pub fn end_line(&mut self, flows: &JournalFlows) -> Result<(), NoMemory>
         ensures { OnOk result (self.new ≡ after_group flows.now self.old) }
     {
-        let sdu = self.submitted.take();
-        self.submit_own(sdu)?;
+        if let Some(sdu) = self.submitted.take() {
+            self.submit(&sdu)?;
+        }
         self.end(flows);
         Ok(())
     }
@@ -162,16 +134,15 @@ impl DeliveredChecker {
         awaited_channels::set(&mut self.ue, lcid, begun(self.alloc, config));
     }
 
-    // The SDU of the group's line is submitted, where one is left.
-    fn submit_own(&mut self, sdu: Option<SubmittedSdu>) -> Result<(), NoMemory>
-        ensures { OnOk result (self.new ≡ submits_own sdu self.old) }
+    // The SDU of the group's line is submitted.
+    fn submit(&mut self, sdu: &Submission) -> Result<(), NoMemory>
+        ensures { OnOk result (self.new ≡ submits_own (Some sdu.now) self.old) }
     {
-        match sdu {
-            Some(SubmittedSdu { side, lcid, octets }) => {
-                self.tell(side, lcid, SduTold::Submitted(octets.as_slice()))
-            }
-            None => Ok(()),
-        }
+        self.tell(
+            sdu.side,
+            sdu.lcid,
+            SduTold::Submitted(sdu.octets.as_slice()),
+        )
     }
 
     fn tell_record(&mut self, one: &Record) -> Result<(), NoMemory>

@@ -23,13 +23,14 @@ use Rattle.journal_takes.specs.TakeEvents.{next_new, kept, sdu_of}
 use Rattle.journal_takes.specs.FlowTakes.{next_take, sdu_kept}
 use Rattle.journal_takes.proofs.Offers.{next_at}
 use Rattle.journal_takes.proofs.TakesTold.{takes_are_true}
-use Rattle.journal_given.specs.declared.given.Submission.{Submission}
+use Rattle.air_record.specs.declared.submission.Submission.{Submission}
+use Rattle.air_record.specs.Submissions.{unrefused}
 use Rattle.journal_given.specs.Supplies.{Supply, Bearer, History, account, histories, accounts, is_pdu, has_length}
 use Rattle.journal_given.specs.Supplies.{is_take, is_report, marked_from, is_same_list, is_short, says}
 use Rattle.journal_given.specs.Supplies.{is_right_report, has_waiting}
 use Rattle.journal_given.specs.Giving.{Giving, side_of, bearer_at, each_from, landed_on, may_take, take_right}
 use Rattle.journal_given.specs.Giving.{discard_right}
-use Rattle.journal_given.specs.Giving.{report_right, unrefused, submits_own, with_submitted, line_submitted, settled}
+use Rattle.journal_given.specs.Giving.{report_right, submits_own, with_submitted, line_submitted, settled}
 use Rattle.journal_given.specs.Giving.{happens, with_kept, record_told, after_record, after_line, hands_on}
 use Rattle.journal_given.specs.Giving.{after_group, after_records, given_within, all_given}
 use Rattle.journal_given.specs.RightTakes.{TakeIsRight, IsSaid, ReportIsRight, DiscardIsRight, OnBearer, IsRightEvent}

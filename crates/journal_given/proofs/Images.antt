@@ -24,7 +24,8 @@ use Rattle.journal_flows.specs.Gathering.{sending_of, sent_last}
 use Rattle.journal_flows.specs.NumberedPdus.{carries_status}
 use Rattle.journal_flows.specs.Accounts.{Keeping, account_at, after_record as record_kept}
 use Rattle.journal_flows.specs.Accounts.{after_group as group_kept}
-use Rattle.journal_given.specs.declared.given.Submission.{Submission}
+use Rattle.air_record.specs.declared.submission.Submission.{Submission}
+use Rattle.air_record.specs.Submissions.{unrefused}
 use Rattle.journal_given.specs.declared.supply.GivenPdu.{GivenPdu}
 use Rattle.journal_given.specs.Supplies.{Supply, Bearer, History, account, histories, accounts, told, is_take, gives}
 use Rattle.journal_given.specs.Supplies.{gives_other, takes_pdu, is_right_report, reports, takes_report, confirms_one}
@@ -33,7 +34,7 @@ use Rattle.journal_given.specs.Supplies.{report_gone}
 use Rattle.journal_given.specs.Supplies.{hears}
 use Rattle.journal_given.specs.Giving.{Giving, Bearers, on_side, bearer_begun, landed, bearer_at}
 use Rattle.journal_given.specs.Giving.{changed_on, each_from, landed_on, ended_on, Waits, offers, may_take, submits}
-use Rattle.journal_given.specs.Giving.{unrefused, submits_own, with_submitted, line_submitted, settled}
+use Rattle.journal_given.specs.Giving.{submits_own, with_submitted, line_submitted, settled}
 use Rattle.journal_given.specs.Giving.{take_right, discard_right, report_right, happens, tells, with_kept}
 use Rattle.journal_given.specs.Giving.{record_told, after_record, after_line, hands_on, at_rest, after_group}
 use Rattle.journal_given.specs.Giving.{after_records, given_within, all_given, waits_at}

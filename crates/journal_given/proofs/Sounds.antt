@@ -30,7 +30,8 @@ use Rattle.journal_takes.specs.TakeEvents.{PduConfirmed, ReportConfirmed, Report
 use Rattle.journal_takes.specs.Takeable.{IsTakeable, IsPossible, AreTakes}
 use Rattle.journal_takes.specs.FlowTakes.{next_take, sdu_kept}
 use Rattle.journal_takes.proofs.TakesTold.{takes_are_true}
-use Rattle.journal_given.specs.declared.given.Submission.{Submission}
+use Rattle.air_record.specs.declared.submission.Submission.{Submission}
+use Rattle.air_record.specs.Submissions.{unrefused}
 use Rattle.journal_given.specs.declared.supply.GivenPdu.{GivenPdu}
 use Rattle.journal_given.specs.Supplies.{Supply, Bearer, History, account, histories, told, is_pdu, has_length, is_take}
 use Rattle.journal_given.specs.Supplies.{gives, gives_other, takes_pdu, is_report, says, is_right_report, reports}
@@ -38,7 +39,7 @@ use Rattle.journal_given.specs.Supplies.{takes_report, confirms_one, confirms_al
 use Rattle.journal_given.specs.Supplies.{is_confirmed_by, has_come, report_gone, hears, come_by, life_ended}
 use Rattle.journal_given.specs.Giving.{Giving, Bearers, on_side, bearer_begun, landed, lives_ended, bearer_at}
 use Rattle.journal_given.specs.Giving.{changed_on, each_from, landed_on, ended_on, submits, happens, tells}
-use Rattle.journal_given.specs.Giving.{unrefused, submits_own, with_submitted, line_submitted, settled}
+use Rattle.journal_given.specs.Giving.{submits_own, with_submitted, line_submitted, settled}
 use Rattle.journal_given.specs.Giving.{with_kept, may_take, record_told, after_record, after_line, hands_on}
 use Rattle.journal_given.specs.Giving.{after_group, after_records, given_within, all_given}
 

@@ -35,10 +35,11 @@ use Rattle.journal_flows.specs.Accounts.{after_line as line_kept, after_record a
 use Rattle.journal_flows.specs.Accounts.{after_group as group_kept, after_taking}
 use Rattle.journal_flows.specs.Laws as flows
 use Rattle.journal_flows.proofs.Gathered.{Agree, Alike, sending_alike, record_alike}
-use Rattle.journal_given.specs.declared.given.Submission.{Submission}
+use Rattle.air_record.specs.declared.submission.Submission.{Submission}
+use Rattle.air_record.specs.Submissions.{unrefused}
 use Rattle.journal_given.specs.Supplies.{Keeper, Bearer, accounts}
 use Rattle.journal_given.specs.Giving.{Giving, landed, lives_ended, each_from, landed_on, ended_on, may_take}
-use Rattle.journal_given.specs.Giving.{unrefused, submits_own, with_submitted, line_submitted, settled, happens, tells}
+use Rattle.journal_given.specs.Giving.{submits_own, with_submitted, line_submitted, settled, happens, tells}
 use Rattle.journal_given.specs.Giving.{with_kept, record_told, after_record, after_line, hands_on, at_rest, after_group}
 use Rattle.journal_given.specs.Laws.{Deed, GoesLine, GoesRecord, GoesEnd, IsTaken, given_by, untaken, flows_done}
 use Rattle.journal_given.specs.Laws.{AreTaken, TakingIsFree}

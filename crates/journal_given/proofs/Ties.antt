@@ -15,9 +15,10 @@ use Rattle.journal_flows.specs.Gathering.{MayTake}
 use Rattle.journal_flows.specs.Accounts.{Keeping, after_line as line_kept, after_record as record_kept}
 use Rattle.journal_flows.specs.Accounts.{after_group as group_kept, after_records as records_kept}
 use Rattle.journal_flows.specs.Accounts.{kept_within, all_kept}
-use Rattle.journal_given.specs.declared.given.Submission.{Submission}
+use Rattle.air_record.specs.declared.submission.Submission.{Submission}
+use Rattle.air_record.specs.Submissions.{unrefused}
 use Rattle.journal_given.specs.Supplies.{Keeper, histories, accounts}
-use Rattle.journal_given.specs.Giving.{Giving, each_from, landed_on, may_take, unrefused, submits_own}
+use Rattle.journal_given.specs.Giving.{Giving, each_from, landed_on, may_take, submits_own}
 use Rattle.journal_given.specs.Giving.{with_submitted, line_submitted, settled, happens, tells, with_kept, after_record}
 use Rattle.journal_given.specs.Giving.{after_line, hands_on, after_group, after_records, given_within, all_given}
 use Rattle.journal_given.specs.Giving.{group_at, behind_records, before_record, may_take_in, may_take_by}

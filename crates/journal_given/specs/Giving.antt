@@ -17,8 +17,9 @@ use Rattle.air_record.specs.declared.line.Line.{Line}
 use Rattle.air_record.specs.declared.line.Line.TheVariants as lines
 use Rattle.air_record.specs.declared.record.Record.{Record}
 use Rattle.air_record.specs.declared.record.Record.TheVariants as records
+use Rattle.air_record.specs.declared.submission.Submission.{Submission}
+use Rattle.air_record.specs.Submissions.{submitted_by, unrefused}
 use Rattle.air_text.specs.Groups.{Group}
-use Rattle.promises.specs.Flows.{refuses}
 use Rattle.promises.specs.Parts.{is_handover}
 use Rattle.promises.specs.Records.{is_got}
 use Rattle.journal_lives.specs.FlowLives.{FlowLives}
@@ -28,7 +29,6 @@ use Rattle.journal_flows.specs.Gathering.{MayTake, sending_of, sent_last}
 use Rattle.journal_flows.specs.Accounts.{Keeping, nothing_kept, account_at}
 use Rattle.journal_flows.specs.Accounts.{after_line as line_kept, after_record as record_kept}
 use Rattle.journal_flows.specs.Accounts.{after_group as group_kept}
-use Rattle.journal_given.specs.declared.given.Submission.{Submission}
 use Rattle.journal_given.specs.Supplies.{Keeper, Supply, Bearer, begun, told, is_take, takes_pdu}
 use Rattle.journal_given.specs.Supplies.{is_right_report, takes_report, report_gone, hears}
 use Rattle.journal_given.specs.Supplies.{confirms_if, come_by, life_ended}
@@ -172,11 +172,6 @@ submits k side lcid octets g = record g {
 -- elsewhere says nothing. So what becomes of it is told by the first record of the group, or by its
 -- end where it has none.
 
--- what is left to be submitted by the record directly behind the line
-abbrev pub unrefused : Record → Option Submission → Option Submission
-unrefused one None = None
-unrefused one (Some s) = if refuses s.side s.lcid one then None else Some s
-
 abbrev pub submits_own : {T : Type 0} → Keeper T → Option Submission → Giving T → Giving T
 submits_own k None g = g
 submits_own k (Some s) g = submits k s.side s.lcid s.octets g
@@ -244,11 +239,6 @@ abbrev pub after_record : {T : Type 0} → Keeper T → Record → Giving T → 
 after_record k one g = record_told k one (settled k one g)
 
 -- ---- a line, and the end of its group
-
-abbrev pub submitted_by : Line → Option Submission
-submitted_by (lines.Submit side lcid octets) =
-    Some (record { side = side; lcid = lcid; octets = octets })
-submitted_by line = None
 
 abbrev pub bearers_by : {T : Type 0} → Keeper T → Line → Bearers T → Bearers T
 bearers_by k (lines.Bearer config options) bs = slice_set bs config.channel.lcid

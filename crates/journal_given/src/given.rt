@@ -1,17 +1,16 @@
 // What a journal's lines and records tell, one by one.
 ghost use Rattle.std.specs.Prelude.{◌≡◌, OnOk, Some, option_copied};
 ghost use Rattle.bearer_types.specs.Sides.{sender_of};
-ghost use Rattle.promises.specs.Flows.{refuses};
 ghost use Rattle.promises.specs.Parts.{is_handover};
 ghost use Rattle.promises.specs.Records.{is_got};
 ghost use Rattle.journal_form.specs.Lines.{HasLayout};
 ghost use Rattle.journal_given.specs.Supplies.{accounts};
-ghost use Rattle.journal_given.specs.Giving.{bearer_at, waits_at, offers, unrefused};
+ghost use Rattle.journal_given.specs.Giving.{bearer_at, waits_at, offers};
 
 use crate::bearer;
 use crate::bearers::{self, Bearers};
 use crate::waits::Waits;
-use air_record::{Arrived, Line, Record};
+use air_record::{Arrived, Line, Record, Submission};
 use bearer_types::{Event, sender_of};
 use journal_flows::{JournalFlows, is_got};
 use journal_takes::FlowTakes;
@@ -38,35 +37,6 @@ fn offers(bearers: &Bearers, waits: &Waits, side: Side, lcid: u8) -> bool
         Some(bearer) => bearer.side(side).takes().may_take(),
         None => waits.at(side, lcid) > 0,
     }
-}
-
-// The SDU that a line submits.
-#[derive(Drop)]
-pub(crate) struct Submission {
-    side: Side,
-    lcid: u8,
-    octets: Bytes,
-}
-
-// Whether a record directly behind the line refuses its SDU.
-fn refuses(one: &Record, sdu: &Submission) -> bool
-    ensures { result ≡ refuses sdu.now.side sdu.now.lcid one.now }
-{
-    match one {
-        Record::Refused { side, lcid, .. } => *side == sdu.side && *lcid == sdu.lcid,
-        _ => false,
-    }
-}
-
-// What it leaves to be submitted.
-fn unrefused(one: &Record, sdu: Option<Submission>) -> Option<Submission>
-    ensures { result ≡ unrefused one.now sdu }
-{
-    let sdu = sdu?;
-    if refuses(one, &sdu) {
-        return None;
-    }
-    Some(sdu)
 }
 
 /// Gathers what PDCP gives RLC of acknowledged data from the lines and records of a journal, which
@@ -109,11 +79,10 @@ impl Model for JournalGiven {
 impl JournalGiven {
     ghost use Rattle.journal_given.specs.Laws.{takes_at};
     ghost use Rattle.journal_given.specs.Giving.{nothing_given, may_take, submits, happens, tells};
-    ghost use Rattle.journal_given.specs.Giving.{line_submitted, settled, hands_on, submitted_by};
+    ghost use Rattle.journal_given.specs.Giving.{line_submitted, settled, hands_on};
     ghost use Rattle.journal_given.specs.Giving.{at_rest};
     ghost use Rattle.journal_given.specs.Lending.{lends_flows};
     ghost use Rattle.std.specs.Borrow.{sem};
-    ghost use Rattle.std.specs.Prelude.{IfOk};
     ghost use Rattle.journal_given.specs.Giving.{after_line, after_record, after_group};
 
     /// Before the first line. It takes no memory.
@@ -181,23 +150,10 @@ impl JournalGiven {
             bearers::set(&mut self.bearers, lcid, begun);
             self.waits.clear(lcid);
         }
-        self.submitted = self.submission(line)?;
+        self.submitted = Submission::of(self.alloc, line)?;
         self.hands_over = is_handover(line);
         self.flows.begin_line(line);
         Ok(())
-    }
-
-    fn submission(&self, line: &Line) -> Result<Option<Submission>, NoMemory>
-        ensures { IfOk result (λ s. s ≡ submitted_by line.now) }
-    {
-        match line {
-            Line::Submit { side, lcid, octets } => Ok(Some(Submission {
-                side: *side,
-                lcid: *lcid,
-                octets: Bytes::from_slice(self.alloc, octets.as_slice())?,
-            })),
-            _ => Ok(None),
-        }
     }
 
     /// Before a record of the group, which isn't its first: the SDU of a `submit` line is submitted
@@ -208,8 +164,13 @@ impl JournalGiven {
     pub fn settle(&mut self, one: &Record) -> Result<(), NoMemory>
         ensures { OnOk result (self.new ≡ settled accounts one.now self.old) }
     {
-        self.submitted = unrefused(one, self.submitted.take());
-        self.submit_own()
+        let Some(Submission { side, lcid, octets }) = self.submitted.take() else {
+            return Ok(());
+        };
+        if one.refuses(side, lcid) {
+            return Ok(());
+        }
+        self.submit(side, lcid, octets)
     }
 
     /// A record of the group, which isn't its first.

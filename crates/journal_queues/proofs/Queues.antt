@@ -14,8 +14,9 @@ use Rattle.air_record.specs.declared.line.Line.{Line}
 use Rattle.air_record.specs.declared.line.Line.TheVariants as lines
 use Rattle.air_record.specs.declared.record.Record.{Record}
 use Rattle.air_record.specs.declared.record.Record.TheVariants as records
+use Rattle.air_record.specs.Submissions.{refuses}
 use Rattle.promises.specs.Events.{is_of_loop}
-use Rattle.promises.specs.Flows.{refuses, is_refused_at_once, handed_in, looped_at}
+use Rattle.promises.specs.Flows.{is_refused_at_once, handed_in, looped_at}
 use Rattle.promises.specs.Parts.{part_of_line}
 use Rattle.promises.specs.Records.{sdu_of, event_of}
 use Rattle.promises.specs.Taken.{length_in, lengths_on}

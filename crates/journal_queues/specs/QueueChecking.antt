@@ -10,9 +10,9 @@ use Rattle.air_record.specs.declared.line.Line.{Line}
 use Rattle.air_record.specs.declared.line.Line.TheVariants as lines
 use Rattle.air_record.specs.declared.record.Record.{Record}
 use Rattle.air_record.specs.declared.record.Record.TheVariants as records
+use Rattle.air_record.specs.Submissions.{refuses}
 use Rattle.air_text.specs.Groups.{Group}
 use Rattle.promises.specs.Delivery.{forges}
-use Rattle.promises.specs.Flows.{refuses}
 use Rattle.journal_queues.specs.declared.checker.Submitted.{Submitted}
 use Rattle.journal_queues.specs.Leaving.{Queue, no_bearer, queue_told, queue_given, handed_over}
 use Rattle.journal_queues.specs.Leaving.{begun_as, is_queue_right}

@@ -1,8 +1,7 @@
 // The checker: a journal's lines and records, one by one.
 ghost use Rattle.std.specs.Prelude.{◌≡◌, OnOk};
 ghost use Rattle.promises.specs.Delivery.{forges};
-ghost use Rattle.promises.specs.Flows.{refuses};
-ghost use Rattle.journal_queues.specs.QueueChecking.{submitted_by, unrefused};
+ghost use Rattle.journal_queues.specs.QueueChecking.{submitted_by};
 
 use crate::channels::{self, Channels};
 use air_record::{Line, Record};
@@ -44,27 +43,6 @@ fn submitted_by(line: &Line) -> Option<Submitted>
     }
 }
 
-// Whether a record refuses the SDU of a line, directly behind it.
-fn refuses(one: &Record, sdu: &Submitted) -> bool
-    ensures { result ≡ refuses sdu.now.side sdu.now.lcid one.now }
-{
-    match one {
-        Record::Refused { side, lcid, .. } => *side == sdu.side && *lcid == sdu.lcid,
-        _ => false,
-    }
-}
-
-// What the record directly behind a line leaves of the line's SDU.
-fn unrefused(one: &Record, sdu: Option<Submitted>) -> Option<Submitted>
-    ensures { result ≡ unrefused one.now sdu }
-{
-    let sdu = sdu?;
-    if refuses(one, &sdu) {
-        return None;
-    }
-    Some(sdu)
-}
-
 /// A checker of the SDUs that leave the queues of bearers without acknowledgement: a journal's
 /// lines and records go in one by one.
 ///
@@ -97,8 +75,8 @@ impl QueueChecker {
     ghost use Rattle.journal_queues.specs.Leaving.{queue_told};
     ghost use Rattle.journal_queues.specs.QueueChecking.{nothing_checked, changed, after_line};
     ghost use Rattle.journal_queues.specs.QueueChecking.{queues_by, after_record, record_told};
-    ghost use Rattle.journal_queues.specs.QueueChecking.{after_event, given, submits_own};
-    ghost use Rattle.journal_queues.specs.QueueChecking.{after_group};
+    ghost use Rattle.journal_queues.specs.QueueChecking.{after_event, given, released};
+    ghost use Rattle.journal_queues.specs.QueueChecking.{unrefused, after_group};
 
     /// Before the first line. It takes no memory.
     pub fn new(alloc: Global) -> QueueChecker
@@ -127,9 +105,22 @@ impl QueueChecker {
     pub fn see(&mut self, one: &Record) -> Result<(), NoMemory>
         ensures { OnOk result (self.new ≡ after_record one.now self.old) }
     {
-        let sdu = unrefused(one, self.submitted.take());
-        self.submit_own(sdu)?;
+        self.settle(one)?;
         self.tell_record(one)
+    }
+
+    // Before a record, which may refuse the SDU of the group's line.
+    fn settle(&mut self, one: &Record) -> Result<(), NoMemory>
+        ensures { OnOk result
+            (self.new ≡ released (unrefused one.now self.old.submitted) self.old) }
+    {
+        let Some(sdu) = self.submitted.take() else {
+            return Ok(());
+        };
+        if one.refuses(sdu.side, sdu.lcid) {
+            return Ok(());
+        }
+        self.submit(sdu)
     }
 
     /// The group has ended: with the next `line` record, the first `sum`, or the journal. Behind an
@@ -137,8 +128,9 @@ impl QueueChecker {
     pub fn end_line(&mut self) -> Result<(), NoMemory>
         ensures { OnOk result (self.new ≡ after_group self.old) }
     {
-        let sdu = self.submitted.take();
-        self.submit_own(sdu)?;
+        if let Some(sdu) = self.submitted.take() {
+            self.submit(sdu)?;
+        }
         let right = channels::are_right(&self.nb) && channels::are_right(&self.ue);
         self.right = self.right && (self.forged || right);
         Ok(())
@@ -202,22 +194,13 @@ impl QueueChecker {
         }
     }
 
+    // The SDU of the group's line is submitted.
     fn submit(&mut self, sdu: Submitted) -> Result<(), NoMemory>
         ensures { OnOk result (self.new ≡ given sdu self.old) }
     {
         match sdu.side {
             Side::Nb => channels::submit(&mut self.nb, sdu.lcid, sdu.len),
             Side::Ue => channels::submit(&mut self.ue, sdu.lcid, sdu.len),
-        }
-    }
-
-    // The SDU of the group's line is submitted, where one is left.
-    fn submit_own(&mut self, sdu: Option<Submitted>) -> Result<(), NoMemory>
-        ensures { OnOk result (self.new ≡ submits_own sdu self.old) }
-    {
-        match sdu {
-            Some(sdu) => self.submit(sdu),
-            None => Ok(()),
         }
     }
 }

@@ -28,7 +28,8 @@ use Rattle.journal_given.specs.Giving.{Giving, all_given}
 use Rattle.journal_given.specs.Giving as giving
 use Rattle.journal_given.proofs.Images.{giving_image}
 use Rattle.journal_sent.specs.declared.checker.NamedPdu.{NamedPdu}
-use Rattle.journal_sent.specs.declared.checker.SubmittedSdu.{SubmittedSdu}
+use Rattle.air_record.specs.declared.submission.Submission.{Submission}
+use Rattle.air_record.specs.Submissions.{unrefused}
 use Rattle.journal_sent.specs.declared.checker.PassedSdu.{PassedSdu}
 use Rattle.journal_sent.specs.declared.verdict.Verdict.{Verdict}
 use Rattle.journal_sent.specs.SentPdus.{histories, accounts}
@@ -37,7 +38,7 @@ use Rattle.journal_sent.specs.SentFlows.{flow_taken, flow_reported, flow_judges}
 use Rattle.journal_sent.specs.Sending.{Flows, flow_at, changed_on, Sending, nothing_sending, flows_of, with_flows}
 use Rattle.journal_sent.specs.Sending.{changed, judged, after_line, has_bearer, is_known, lcid_in, sdu_of, right_in}
 use Rattle.journal_sent.specs.Sending.{named_of, with_named, event_told, with_verdict, pdu_told_by, acked_at, pdu_told}
-use Rattle.journal_sent.specs.Sending.{pdus_told, block_told, record_told, after_record, unrefused, submits_own}
+use Rattle.journal_sent.specs.Sending.{pdus_told, block_told, record_told, after_record, submits_own}
 use Rattle.journal_sent.specs.Sending.{released, settled, after_group, records_told, sending_within, all_sending}
 use Rattle.journal_sent.specs.Sending.{gives_reports}
 use Rattle.journal_sent.specs.RightSent.{Flow, PduIsSent, PduIsShaped, PduTest, behind_pdu, EachPdu, InBlock, TakenAs}
@@ -364,7 +365,7 @@ JudgesRecords so_far right = (one : Record) (g : Giving given.History) (s : Send
 record Rests (so_far : Sending Events → Bool) : Type 0 where
   starts : so_far nothing_sending ≡ true
   lines : (line : Line) (s : Sending Events) → so_far (after_line histories line s) ≡ so_far s
-  submits : (o : Option SubmittedSdu) (s : Sending Events) → so_far (released o s) ≡ so_far s
+  submits : (o : Option Submission) (s : Sending Events) → so_far (released o s) ≡ so_far s
   ends : (g : Giving given.History) (s : Sending Events) → so_far (after_group histories g s) ≡ so_far s
 
 records_exact : (so_far : Sending Events → Bool) (right : RecordTest) → JudgesRecords so_far right → Rests so_far
@@ -399,11 +400,11 @@ line_shaped (lines.Keys keys) s = refl
 line_shaped (lines.Handover user rrc integrity) s = refl
 line_shaped line s = refl
 
-own_sent : (o : Option SubmittedSdu) (s : Sending Events) → (submits_own o s).sent ≡ s.sent
+own_sent : (o : Option Submission) (s : Sending Events) → (submits_own o s).sent ≡ s.sent
 own_sent None s = refl
 own_sent (Some d) s = flows_sent d.side (changed_on d.lcid (flow_submitted d.octets) (flows_of d.side s)) s
 
-own_shaped : (o : Option SubmittedSdu) (s : Sending Events) → (submits_own o s).shaped ≡ s.shaped
+own_shaped : (o : Option Submission) (s : Sending Events) → (submits_own o s).shaped ≡ s.shaped
 own_shaped None s = refl
 own_shaped (Some d) s = flows_shaped d.side (changed_on d.lcid (flow_submitted d.octets) (flows_of d.side s)) s
 

@@ -29,7 +29,8 @@ use Rattle.journal_given.specs.Giving.{Giving, each_from, all_given, given_withi
 use Rattle.journal_given.specs.Giving as giving
 use Rattle.journal_given.proofs.Images.{giving_image, settled_image, within_image, given_image}
 use Rattle.journal_sent.specs.declared.checker.NamedPdu.{NamedPdu}
-use Rattle.journal_sent.specs.declared.checker.SubmittedSdu.{SubmittedSdu}
+use Rattle.air_record.specs.declared.submission.Submission.{Submission}
+use Rattle.air_record.specs.Submissions.{unrefused}
 use Rattle.journal_sent.specs.declared.checker.PassedSdu.{PassedSdu}
 use Rattle.journal_sent.specs.SentPdus.{Keeper, histories, accounts}
 use Rattle.journal_sent.specs.SentFlows.{SentFlow, cover_of, flow_submitted, flow_taken, flow_renewed, flow_settled}
@@ -37,7 +38,7 @@ use Rattle.journal_sent.specs.SentFlows.{flow_reported, flow_discarded}
 use Rattle.journal_sent.specs.Sending.{Flows, flow_at, Sending, flows_of, with_flows, changed_on, bearer_begun}
 use Rattle.journal_sent.specs.Sending.{after_line, is_known, lcid_in, judged, sdu_of, event_told}
 use Rattle.journal_sent.specs.Sending.{named_of, with_named, pdu_told_by, acked_at, pdu_told, pdus_told, tells}
-use Rattle.journal_sent.specs.Sending.{unrefused, submits_own, released, settled, after_record, renewed_by, keys_behind}
+use Rattle.journal_sent.specs.Sending.{submits_own, released, settled, after_record, renewed_by, keys_behind}
 use Rattle.journal_sent.specs.Sending.{after_group}
 use Rattle.journal_sent.specs.Sending.{records_told, sending_within, all_sending, flow_closed, closed}
 use Rattle.journal_sent.proofs.Grows.{hands_keep, group_keeps}
@@ -106,11 +107,11 @@ record_renews (records.Looped lcid octets) g p s = refl
 record_renews (records.Refused side lcid why) g p s = refl
 record_renews one g p s = refl
 
-own_renews : (o : Option SubmittedSdu) (s : Sending Events) → (submits_own o s).renewal ≡ s.renewal
+own_renews : (o : Option Submission) (s : Sending Events) → (submits_own o s).renewal ≡ s.renewal
 own_renews None s = refl
 own_renews (Some d) s = flows_renew d.side (changed_on d.lcid (flow_submitted d.octets) (flows_of d.side s)) s
 
-released_renews : (o : Option SubmittedSdu) (s : Sending Events) → (released o s).renewal ≡ s.renewal
+released_renews : (o : Option Submission) (s : Sending Events) → (released o s).renewal ≡ s.renewal
 released_renews o s = own_renews o (record s { submitted = None })
 
 -- ---- a line
@@ -358,7 +359,7 @@ group_alike : (g : Giving given.History) (s : Sending Events) (t : Sending SentO
     (after_group histories (giving.after_group given.histories g) s)
     (after_group accounts (giving_image (giving.after_group given.histories g)) t)
 group_alike g s t h =
-    let last = left_both (λ (o : Option SubmittedSdu). o) g.kept.journal.flows s t h.alike in
+    let last = left_both (λ (o : Option Submission). o) g.kept.journal.flows s t h.alike in
     let renews = subst (λ (o : Option Keys). Renews o g.kept.hands_over) (sym (released_renews s.submitted s))
     h.renews in
     let after = giving.after_group given.histories g in

@@ -41,10 +41,11 @@ use Rattle.journal_flows.specs.Gathering.{loads, sdus_read, holds, resends, all_
 use Rattle.journal_flows.specs.Gathering.{with_flows, behind_landing}
 use Rattle.journal_flows.specs.Accounts.{Accounts, Keeping, slot_with, acked_in, accounts, account_with}
 use Rattle.journal_flows.specs.Accounts.{after_record as record_kept, after_group as group_kept}
-use Rattle.journal_given.specs.declared.given.Submission.{Submission}
+use Rattle.air_record.specs.declared.submission.Submission.{Submission}
+use Rattle.air_record.specs.Submissions.{unrefused}
 use Rattle.journal_given.specs.Supplies.{History, histories}
 use Rattle.journal_given.specs.Giving.{Giving, each_from, landed_on, may_take, happens, tells, with_kept, after_record}
-use Rattle.journal_given.specs.Giving.{unrefused, submits_own, with_submitted, line_submitted, settled, hands_on}
+use Rattle.journal_given.specs.Giving.{submits_own, with_submitted, line_submitted, settled, hands_on}
 use Rattle.journal_given.specs.Giving.{after_group}
 
 -- ---- an event of an account

@@ -24,7 +24,8 @@ use Rattle.journal_given.specs.Supplies as given
 use Rattle.journal_given.specs.Giving.{Giving, bearer_at, settled as settled_given, after_record as after_given}
 use Rattle.journal_given.proofs.Images.{giving_image, slot_image, at_image}
 use Rattle.journal_sent.specs.declared.checker.NamedPdu.{NamedPdu}
-use Rattle.journal_sent.specs.declared.checker.SubmittedSdu.{SubmittedSdu}
+use Rattle.air_record.specs.declared.submission.Submission.{Submission}
+use Rattle.air_record.specs.Submissions.{unrefused}
 use Rattle.journal_sent.specs.declared.checker.PassedSdu.{PassedSdu}
 use Rattle.journal_sent.specs.declared.verdict.Verdict.{Verdict}
 use Rattle.journal_sent.specs.SentPdus.{histories, accounts}
@@ -34,7 +35,7 @@ use Rattle.journal_sent.specs.Sending.{Flows, flow_at, Sending, flows_of, with_f
 use Rattle.journal_sent.specs.Sending.{has_bearer, is_known, lcid_in, sdu_in, sdu_of, right_in, passed_as, passed_in}
 use Rattle.journal_sent.specs.Sending.{take_told, gives_reports, named_of, with_named, names, event_told}
 use Rattle.journal_sent.specs.Sending.{with_verdict, pdu_told_by, acked_at, pdu_told, pdus_told, block_told}
-use Rattle.journal_sent.specs.Sending.{unrefused, submits_own, released, settled, tells, record_told, after_record}
+use Rattle.journal_sent.specs.Sending.{submits_own, released, settled, tells, record_told, after_record}
 use Rattle.journal_sent.proofs.Grows.{IsLiving, slot_grows, Keeps, record_keep}
 use Rattle.journal_sent.proofs.KeptStreams.{Events}
 use Rattle.journal_sent.proofs.KeptFlows.{IsAlike, submitted_alike, discarded_alike, discard_same, taken_alike}
@@ -409,7 +410,7 @@ block_both a direction octets g s t h =
 
 -- ---- a record
 
-abbrev with_submitted : {T : Type 0} → Option SubmittedSdu → Sending T → Sending T
+abbrev with_submitted : {T : Type 0} → Option Submission → Sending T → Sending T
 with_submitted d s = record s { submitted = d }
 
 none_submitted : (a : Accounts) (s : Sending Events) (t : Sending SentOctets) → AreAlike a s t
@@ -417,23 +418,23 @@ none_submitted : (a : Accounts) (s : Sending Events) (t : Sending SentOctets) �
 none_submitted a s t h =
     plain_step a (with_submitted None) s (with_submitted None s) refl refl (λ nb ue. refl) t h
 
-own_both : (a : Accounts) (o : Option SubmittedSdu) (s : Sending Events) (t : Sending SentOctets) → AreAlike a s t
+own_both : (a : Accounts) (o : Option Submission) (s : Sending Events) (t : Sending SentOctets) → AreAlike a s t
     → AreAlike a (submits_own o s) (submits_own o t)
 own_both a None s t h = h
 own_both a (Some d) s t h = changed_alike a d.side d.lcid (flow_submitted d.octets) (flow_submitted d.octets)
     (λ account. submitted_alike account d.octets) s t h
 
-released_both : (a : Accounts) (o : Option SubmittedSdu) (s : Sending Events) (t : Sending SentOctets)
+released_both : (a : Accounts) (o : Option Submission) (s : Sending Events) (t : Sending SentOctets)
     → AreAlike a s t → AreAlike a (released o s) (released o t)
 released_both a o s t h =
     own_both a o (with_submitted None s) (with_submitted None t) (none_submitted a s t h)
 
 -- what is left of the SDU of the group's line
-pub left_both : (left : Option SubmittedSdu → Option SubmittedSdu) (a : Accounts) (s : Sending Events)
+pub left_both : (left : Option Submission → Option Submission) (a : Accounts) (s : Sending Events)
     (t : Sending SentOctets) → AreAlike a s t
     → AreAlike a (released (left s.submitted) s) (released (left t.submitted) t)
 left_both left a s t h =
-    subst (λ (o : Option SubmittedSdu). AreAlike a (released (left s.submitted) s) (released (left o) t))
+    subst (λ (o : Option Submission). AreAlike a (released (left s.submitted) s) (released (left o) t))
     (sym (ap (λ (x : Sending SentOctets). x.submitted) h.is)) (released_both a (left s.submitted) s t h)
 
 pub settled_both : (a : Accounts) (one : Record) (s : Sending Events) (t : Sending SentOctets) → AreAlike a s t

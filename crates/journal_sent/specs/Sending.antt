@@ -19,8 +19,9 @@ use Rattle.air_record.specs.declared.line.Line.{Line}
 use Rattle.air_record.specs.declared.line.Line.TheVariants as lines
 use Rattle.air_record.specs.declared.record.Record.{Record}
 use Rattle.air_record.specs.declared.record.Record.TheVariants as records
+use Rattle.air_record.specs.declared.submission.Submission.{Submission}
+use Rattle.air_record.specs.Submissions.{submitted_by, unrefused}
 use Rattle.air_text.specs.Groups.{Group}
-use Rattle.promises.specs.Flows.{refuses}
 use Rattle.pdu_show.specs.Kinds.{layout_of}
 use Rattle.journal_flows.specs.Gathering.{sdus_read}
 use Rattle.journal_flows.specs.Accounts.{account_at}
@@ -28,7 +29,6 @@ use Rattle.journal_given.specs.Supplies as given
 use Rattle.journal_given.specs.Giving.{Giving, side_of, bearer_at, each_from, all_given}
 use Rattle.journal_given.specs.Giving as giving
 use Rattle.journal_sent.specs.declared.checker.NamedPdu.{NamedPdu}
-use Rattle.journal_sent.specs.declared.checker.SubmittedSdu.{SubmittedSdu}
 use Rattle.journal_sent.specs.declared.checker.PassedSdu.{PassedSdu}
 use Rattle.journal_sent.specs.declared.verdict.Verdict.{Verdict}
 use Rattle.journal_sent.specs.SentPdus.{Keeper}
@@ -62,7 +62,7 @@ pub record Sending (T : Type 0) : Type 0 where
   -- the SDU of the record just before, where that is a `take` on a transparent bearer
   pub passed : Option PassedSdu
   -- the SDU of the group's line, until it is submitted or refused
-  pub submitted : Option SubmittedSdu
+  pub submitted : Option Submission
   -- the keys of the life that runs; those of the next one, in a group of a handover
   pub keys : Keys
   pub renewal : Option Keys
@@ -112,11 +112,6 @@ with_bearer k config s = record s {
   ue = slice_set s.ue config.channel.lcid (bearer_begun k Ue s.keys config);
 }
 
-abbrev pub submitted_by : Line → Option SubmittedSdu
-submitted_by (lines.Submit side lcid octets) =
-    Some (record { side = side; lcid = lcid; octets = octets })
-submitted_by line = None
-
 abbrev pub line_told : {T : Type 0} → Keeper T → Line → Sending T → Sending T
 line_told k (lines.Bearer config options) s = with_bearer k config s
 line_told k (lines.Keys keys) s = record s { keys = keys }
@@ -135,16 +130,11 @@ after_line k line s =
 -- elsewhere says nothing. So what becomes of it is told by the first record of the group, or by its
 -- end where it has none.
 
--- what is left to be submitted by the record directly behind the line
-abbrev pub unrefused : Record → Option SubmittedSdu → Option SubmittedSdu
-unrefused one None = None
-unrefused one (Some d) = if refuses d.side d.lcid one then None else Some d
-
-abbrev pub submits_own : {T : Type 0} → Option SubmittedSdu → Sending T → Sending T
+abbrev pub submits_own : {T : Type 0} → Option Submission → Sending T → Sending T
 submits_own None s = s
 submits_own (Some d) s = changed d.side d.lcid (flow_submitted d.octets) s
 
-abbrev pub released : {T : Type 0} → Option SubmittedSdu → Sending T → Sending T
+abbrev pub released : {T : Type 0} → Option Submission → Sending T → Sending T
 released sdu s = submits_own sdu (record s { submitted = None })
 
 -- before a record, which may refuse it

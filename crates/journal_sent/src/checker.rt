@@ -1,5 +1,5 @@
 // The checker: a journal's lines and records, one by one.
-ghost use Rattle.std.specs.Prelude.{◌≡◌, ◌≤◌, ◌<◌, IfOk, OnOk, length, option_copied};
+ghost use Rattle.std.specs.Prelude.{◌≡◌, ◌≤◌, ◌<◌, IfOk, OnOk, Some, length, option_copied};
 ghost use Rattle.l2_bits.specs.declared.limits.TheConstants.{OCTETS_LIMIT};
 ghost use Rattle.bearer_types.specs.Configs.{AreRlcBits, ArePdcpBits};
 ghost use Rattle.journal_form.specs.Lines.{HasLayout};
@@ -7,11 +7,11 @@ ghost use Rattle.promises.specs.RightForm.{sdus_in};
 ghost use Rattle.journal_given.specs.Supplies.{accounts as supplies};
 ghost use Rattle.journal_sent.specs.SentPdus.{accounts};
 
-use crate::events::{lcid_in, passed_to, sdu_of, unrefused};
+use crate::events::{lcid_in, passed_to, sdu_of};
 use crate::flow::begun;
 use crate::flows::{self, Flows};
 use crate::verdict::Verdict;
-use air_record::{Line, Record, no_keys};
+use air_record::{Line, Record, Submission, no_keys};
 use bearer_types::{BearerConfig, Event, sender_of};
 use eps_sec::Keys;
 use journal_given::JournalGiven;
@@ -29,14 +29,6 @@ pub(crate) struct NamedPdu {
     pub(crate) lcid: u8,
     pub(crate) how: How,
     pub(crate) sdu: Option<Bytes>,
-}
-
-// An SDU of a side's channel that a line submits.
-#[derive(Drop)]
-pub(crate) struct SubmittedSdu {
-    pub(crate) side: Side,
-    pub(crate) lcid: u8,
-    pub(crate) octets: Bytes,
 }
 
 // An SDU that a transparent bearer of a side passes on.
@@ -63,7 +55,7 @@ pub struct SentChecker {
     named_nb: Items<NamedPdu>,
     named_ue: Items<NamedPdu>,
     passed: Option<PassedSdu>,
-    submitted: Option<SubmittedSdu>,
+    submitted: Option<Submission>,
     keys: Keys,
     renewal: Option<Keys>,
     sent: bool,
@@ -95,7 +87,7 @@ impl SentChecker {
     ghost use Rattle.journal_sent.specs.SentFlows.{take_right, flow_taken, discard_right};
     ghost use Rattle.journal_sent.specs.SentFlows.{flow_discarded, flow_reported, acked_by};
     ghost use Rattle.journal_sent.specs.Sending.{nothing_sending, flows_of, flow_at, changed};
-    ghost use Rattle.journal_sent.specs.Sending.{judged, with_bearer, submitted_by, line_told};
+    ghost use Rattle.journal_sent.specs.Sending.{judged, with_bearer, line_told};
     ghost use Rattle.journal_sent.specs.Sending.{after_line, has_bearer, is_known, right_in};
     ghost use Rattle.journal_sent.specs.Sending.{passed_in, take_told, gives_reports, named_of};
     ghost use Rattle.journal_sent.specs.Sending.{with_named, names, event_told, pdu_told};
@@ -154,22 +146,9 @@ impl SentChecker {
         ensures { OnOk result (self.new ≡ after_line accounts line.now self.old) }
     {
         self.passed = None;
-        self.submitted = self.submitted_by(line)?;
+        self.submitted = Submission::of(self.alloc, line)?;
         self.tell_line(line);
         Ok(())
-    }
-
-    fn submitted_by(&self, line: &Line) -> Result<Option<SubmittedSdu>, NoMemory>
-        ensures { IfOk result (λ s. s ≡ submitted_by line.now) }
-    {
-        match line {
-            Line::Submit { side, lcid, octets } => Ok(Some(SubmittedSdu {
-                side: *side,
-                lcid: *lcid,
-                octets: Bytes::from_slice(self.alloc, octets.as_slice())?,
-            })),
-            _ => Ok(None),
-        }
     }
 
     fn tell_line(&mut self, line: &Line)
@@ -226,17 +205,20 @@ impl SentChecker {
     fn settle(&mut self, one: &Record) -> Result<(), NoMemory>
         ensures { OnOk result (self.new ≡ settled one.now self.old) }
     {
-        let sdu = unrefused(one, self.submitted.take());
-        self.submit_own(sdu)
-    }
-
-    // The SDU of the group's line is submitted, where one is left.
-    fn submit_own(&mut self, sdu: Option<SubmittedSdu>) -> Result<(), NoMemory>
-        ensures { OnOk result (self.new ≡ submits_own sdu self.old) }
-    {
-        let Some(SubmittedSdu { side, lcid, octets }) = sdu else {
+        let Some(sdu) = self.submitted.take() else {
             return Ok(());
         };
+        if one.refuses(sdu.side, sdu.lcid) {
+            return Ok(());
+        }
+        self.submit(sdu)
+    }
+
+    // The SDU of the group's line is submitted.
+    fn submit(&mut self, sdu: Submission) -> Result<(), NoMemory>
+        ensures { OnOk result (self.new ≡ submits_own (Some sdu) self.old) }
+    {
+        let Submission { side, lcid, octets } = sdu;
         match side {
             Side::Nb => flows::submit(&mut self.nb, lcid, octets),
             Side::Ue => flows::submit(&mut self.ue, lcid, octets),
@@ -539,8 +521,9 @@ impl SentChecker {
     pub fn end_line(&mut self, given: &JournalGiven) -> Result<(), NoMemory>
         ensures { OnOk result (self.new ≡ after_group accounts given.now self.old) }
     {
-        let sdu = self.submitted.take();
-        self.submit_own(sdu)?;
+        if let Some(sdu) = self.submitted.take() {
+            self.submit(sdu)?;
+        }
         self.close(given)
     }
 

@@ -1,36 +1,14 @@
 // What records say of what they are about.
 ghost use Rattle.std.specs.Prelude.{◌≡◌, option_copied};
-ghost use Rattle.promises.specs.Flows.{refuses};
 ghost use Rattle.journal_given.specs.Supplies.{accounts as supplies};
-ghost use Rattle.journal_sent.specs.Sending.{lcid_in, sdu_of, passed_to, unrefused};
+ghost use Rattle.journal_sent.specs.Sending.{lcid_in, sdu_of, passed_to};
 
-use crate::checker::{PassedSdu, SubmittedSdu};
+use crate::checker::PassedSdu;
 use air_record::Record;
 use bearer_types::Event;
 use journal_given::JournalGiven;
 use l2_bits::Bytes;
 use l2_types::Side;
-
-// Whether a record refuses the SDU of a line, directly behind it.
-fn refuses(one: &Record, sdu: &SubmittedSdu) -> bool
-    ensures { result ≡ refuses sdu.now.side sdu.now.lcid one.now }
-{
-    match one {
-        Record::Refused { side, lcid, .. } => *side == sdu.side && *lcid == sdu.lcid,
-        _ => false,
-    }
-}
-
-// What the record directly behind a line leaves of the line's SDU.
-pub(crate) fn unrefused(one: &Record, sdu: Option<SubmittedSdu>) -> Option<SubmittedSdu>
-    ensures { result ≡ unrefused one.now sdu }
-{
-    let sdu = sdu?;
-    if refuses(one, &sdu) {
-        return None;
-    }
-    Some(sdu)
-}
 
 // The SDU that was passed on just before on a side's channel.
 pub(crate) fn passed_to(side: Side, lcid: u8, passed: Option<PassedSdu>) -> Option<Bytes>
