@@ -13,6 +13,7 @@ use air_record::Record;
 use std::alloc::Global;
 
 #[tactic(auto, unfolding(crate::specs::Blocks::tti_of))]
+#[inline(never)]
 pub fn tti(fields: &[&[u8]]) -> Result<Record, TextFault>
     ensures record { Gives result (tti_of (texts fields.now)) }
     ensures text { IfOk result (IsSaid (codes "tti" ∷ texts fields.now)) }
@@ -36,6 +37,7 @@ pub fn sleep(fields: &[&[u8]]) -> Result<Record, TextFault>
 }
 
 #[tactic(auto, unfolding(crate::specs::Blocks::block_of))]
+#[inline(never)]
 pub fn block(alloc: Global, fields: &[&[u8]]) -> Result<Record, TextFault>
     ensures record { Gives result (block_of (texts fields.now)) }
     ensures text { IfOk result (IsSaid (codes "block" ∷ texts fields.now)) }
@@ -58,6 +60,7 @@ pub fn block(alloc: Global, fields: &[&[u8]]) -> Result<Record, TextFault>
 }
 
 #[tactic(auto, unfolding(crate::specs::Blocks::air_of))]
+#[inline(never)]
 pub fn air(fields: &[&[u8]]) -> Result<Record, TextFault>
     ensures record { Gives result (air_of (texts fields.now)) }
     ensures text { IfOk result (IsSaid (codes "air" ∷ texts fields.now)) }
@@ -76,6 +79,7 @@ pub fn air(fields: &[&[u8]]) -> Result<Record, TextFault>
 }
 
 #[tactic(auto, unfolding(crate::specs::Blocks::refused_of))]
+#[inline(never)]
 pub fn refused(fields: &[&[u8]]) -> Result<Record, TextFault>
     ensures record { Gives result (refused_of (texts fields.now)) }
     ensures text { IfOk result (IsSaid (codes "refused" ∷ texts fields.now)) }
@@ -90,6 +94,7 @@ pub fn refused(fields: &[&[u8]]) -> Result<Record, TextFault>
 }
 
 #[tactic(auto, unfolding(crate::specs::Blocks::looped_of))]
+#[inline(never)]
 pub fn looped(alloc: Global, fields: &[&[u8]]) -> Result<Record, TextFault>
     ensures record { Gives result (looped_of (texts fields.now)) }
     ensures text { IfOk result (IsSaid (codes "loop" ∷ texts fields.now)) }
@@ -103,6 +108,7 @@ pub fn looped(alloc: Global, fields: &[&[u8]]) -> Result<Record, TextFault>
 }
 
 #[tactic(auto, unfolding(crate::specs::Blocks::drained_of))]
+#[inline(never)]
 pub fn drained(fields: &[&[u8]]) -> Result<Record, TextFault>
     ensures record { Gives result (drained_of (texts fields.now)) }
     ensures text { IfOk result (IsSaid (codes "drained" ∷ texts fields.now)) }
@@ -115,6 +121,7 @@ pub fn drained(fields: &[&[u8]]) -> Result<Record, TextFault>
 }
 
 #[tactic(auto, unfolding(crate::specs::Blocks::sum_of))]
+#[inline(never)]
 pub fn sum(fields: &[&[u8]]) -> Result<Record, TextFault>
     ensures record { Gives result (sum_of (texts fields.now)) }
     ensures text { IfOk result (IsSaid (codes "sum" ∷ texts fields.now)) }

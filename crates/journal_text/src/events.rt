@@ -23,6 +23,7 @@ use rlc_pdu::RlcRefusal;
 use std::alloc::Global;
 
 #[tactic(auto, unfolding(crate::specs::Events::take_of))]
+#[inline(never)]
 fn take(side: Side, lcid: u8, fields: &[&[u8]]) -> Result<Record, TextFault>
     ensures record { Gives result (take_of side lcid (texts fields.now)) }
     ensures text { IfOk result
@@ -40,6 +41,7 @@ fn take(side: Side, lcid: u8, fields: &[&[u8]]) -> Result<Record, TextFault>
 }
 
 #[tactic(auto, unfolding(crate::specs::Events::report_of))]
+#[inline(never)]
 fn report(alloc: Global, side: Side, lcid: u8, fields: &[&[u8]]) -> Result<Record, TextFault>
     ensures record { Gives result (report_of side lcid (texts fields.now)) }
     ensures text { IfOk result
@@ -57,6 +59,7 @@ fn report(alloc: Global, side: Side, lcid: u8, fields: &[&[u8]]) -> Result<Recor
 }
 
 #[tactic(auto, unfolding(crate::specs::Events::send_of))]
+#[inline(never)]
 fn send(side: Side, lcid: u8, fields: &[&[u8]]) -> Result<Record, TextFault>
     ensures record { Gives result (send_of side lcid (texts fields.now)) }
     ensures text { IfOk result
@@ -74,6 +77,7 @@ fn send(side: Side, lcid: u8, fields: &[&[u8]]) -> Result<Record, TextFault>
 }
 
 #[tactic(auto, unfolding(crate::specs::Events::wait_of))]
+#[inline(never)]
 fn wait(side: Side, lcid: u8, fields: &[&[u8]]) -> Result<Record, TextFault>
     ensures record { Gives result (wait_of side lcid (texts fields.now)) }
     ensures text { IfOk result
@@ -90,6 +94,7 @@ fn wait(side: Side, lcid: u8, fields: &[&[u8]]) -> Result<Record, TextFault>
 }
 
 #[tactic(auto, unfolding(crate::specs::Events::start_of))]
+#[inline(never)]
 fn start(side: Side, lcid: u8, fields: &[&[u8]]) -> Result<Record, TextFault>
     ensures record { Gives result (start_of side lcid (texts fields.now)) }
     ensures text { IfOk result
@@ -106,6 +111,7 @@ fn start(side: Side, lcid: u8, fields: &[&[u8]]) -> Result<Record, TextFault>
 }
 
 #[tactic(auto, unfolding(crate::specs::Events::stop_of))]
+#[inline(never)]
 fn stop(side: Side, lcid: u8, fields: &[&[u8]]) -> Result<Record, TextFault>
     ensures record { Gives result (stop_of side lcid (texts fields.now)) }
     ensures text { IfOk result
@@ -122,6 +128,7 @@ fn stop(side: Side, lcid: u8, fields: &[&[u8]]) -> Result<Record, TextFault>
 }
 
 #[tactic(auto, unfolding(crate::specs::Events::expired_of))]
+#[inline(never)]
 fn expired(side: Side, lcid: u8, fields: &[&[u8]]) -> Result<Record, TextFault>
     ensures record { Gives result (expired_of side lcid (texts fields.now)) }
     ensures text { IfOk result
@@ -138,6 +145,7 @@ fn expired(side: Side, lcid: u8, fields: &[&[u8]]) -> Result<Record, TextFault>
 }
 
 #[tactic(auto, unfolding(crate::specs::Events::up_of))]
+#[inline(never)]
 fn up(alloc: Global, side: Side, lcid: u8, fields: &[&[u8]]) -> Result<Record, TextFault>
     ensures record { Gives result (up_of side lcid (texts fields.now)) }
     ensures text { IfOk result
@@ -154,6 +162,7 @@ fn up(alloc: Global, side: Side, lcid: u8, fields: &[&[u8]]) -> Result<Record, T
 }
 
 #[tactic(auto, unfolding(crate::specs::Events::fail_of))]
+#[inline(never)]
 fn fail(side: Side, lcid: u8, fields: &[&[u8]]) -> Result<Record, TextFault>
     ensures record { Gives result (fail_of side lcid (texts fields.now)) }
     ensures text { IfOk result
@@ -170,6 +179,7 @@ fn fail(side: Side, lcid: u8, fields: &[&[u8]]) -> Result<Record, TextFault>
 }
 
 #[tactic(auto, unfolding(crate::specs::Events::drop_of))]
+#[inline(never)]
 fn drop(side: Side, lcid: u8, fields: &[&[u8]]) -> Result<Record, TextFault>
     ensures record { Gives result (drop_of side lcid (texts fields.now)) }
     ensures text { IfOk result
@@ -186,6 +196,7 @@ fn drop(side: Side, lcid: u8, fields: &[&[u8]]) -> Result<Record, TextFault>
 }
 
 #[tactic(auto, unfolding(crate::specs::Events::integrity_of))]
+#[inline(never)]
 fn integrity(side: Side, lcid: u8, fields: &[&[u8]]) -> Result<Record, TextFault>
     ensures record { Gives result (integrity_of side lcid (texts fields.now)) }
     ensures text { IfOk result
@@ -207,6 +218,7 @@ fn integrity(side: Side, lcid: u8, fields: &[&[u8]]) -> Result<Record, TextFault
 }
 
 #[tactic(auto, unfolding(crate::specs::Events::discard_of))]
+#[inline(never)]
 fn discard(side: Side, lcid: u8, fields: &[&[u8]]) -> Result<Record, TextFault>
     ensures record { Gives result (discard_of side lcid (texts fields.now)) }
     ensures text { IfOk result
@@ -223,6 +235,7 @@ fn discard(side: Side, lcid: u8, fields: &[&[u8]]) -> Result<Record, TextFault>
 }
 
 #[tactic(auto, unfolding(crate::specs::Events::bad_block_of))]
+#[inline(never)]
 fn bad_block(side: Side, fields: &[&[u8]]) -> Result<Record, TextFault>
     ensures record { Gives result (bad_block_of side (texts fields.now)) }
     ensures text { IfOk result
@@ -240,6 +253,7 @@ fn bad_block(side: Side, fields: &[&[u8]]) -> Result<Record, TextFault>
 }
 
 #[tactic(auto, unfolding(crate::specs::Events::bad_rlc_of))]
+#[inline(never)]
 fn bad_rlc(side: Side, fields: &[&[u8]]) -> Result<Record, TextFault>
     ensures record { Gives result (bad_rlc_of side (texts fields.now)) }
     ensures text { IfOk result
@@ -261,6 +275,7 @@ fn bad_rlc(side: Side, fields: &[&[u8]]) -> Result<Record, TextFault>
 }
 
 #[tactic(auto, unfolding(crate::specs::Events::bad_pdcp_of))]
+#[inline(never)]
 fn bad_pdcp(side: Side, fields: &[&[u8]]) -> Result<Record, TextFault>
     ensures record { Gives result (bad_pdcp_of side (texts fields.now)) }
     ensures text { IfOk result
@@ -288,14 +303,15 @@ fn bad(side: Side, layer: &[u8], fields: &[&[u8]]) -> Result<Record, TextFault>
         (IsSaid (codes "bad" ∷ side_text side ∷ layer.now ∷ texts fields.now)) }
 {
     if says(layer, b"mac") {
-        bad_block(side, fields)
-    } else if says(layer, b"rlc") {
-        bad_rlc(side, fields)
-    } else if says(layer, b"pdcp") {
-        bad_pdcp(side, fields)
-    } else {
-        Err(TextFault::NotARecord)
+        return bad_block(side, fields);
     }
+    if says(layer, b"rlc") {
+        return bad_rlc(side, fields);
+    }
+    if says(layer, b"pdcp") {
+        return bad_pdcp(side, fields);
+    }
+    Err(TextFault::NotARecord)
 }
 
 // What happens on a channel.
@@ -311,36 +327,47 @@ fn channel_event(
         (IsSaid (first.now ∷ side_text side ∷ decimal lcid ∷ texts fields.now)) }
 {
     if says(first, b"take") {
-        take(side, lcid, fields)
-    } else if says(first, b"send") {
-        send(side, lcid, fields)
-    } else if says(first, b"up") {
-        up(alloc, side, lcid, fields)
-    } else if says(first, b"start") {
-        start(side, lcid, fields)
-    } else if says(first, b"stop") {
-        stop(side, lcid, fields)
-    } else if says(first, b"report") {
-        report(alloc, side, lcid, fields)
-    } else if says(first, b"wait") {
-        wait(side, lcid, fields)
-    } else if says(first, b"drop") {
-        drop(side, lcid, fields)
-    } else if says(first, b"expired") {
-        expired(side, lcid, fields)
-    } else if says(first, b"fail") {
-        fail(side, lcid, fields)
-    } else if says(first, b"discard") {
-        discard(side, lcid, fields)
-    } else if says(first, b"integrity") {
-        integrity(side, lcid, fields)
-    } else {
-        Err(TextFault::NotARecord)
+        return take(side, lcid, fields);
     }
+    if says(first, b"send") {
+        return send(side, lcid, fields);
+    }
+    if says(first, b"up") {
+        return up(alloc, side, lcid, fields);
+    }
+    if says(first, b"start") {
+        return start(side, lcid, fields);
+    }
+    if says(first, b"stop") {
+        return stop(side, lcid, fields);
+    }
+    if says(first, b"report") {
+        return report(alloc, side, lcid, fields);
+    }
+    if says(first, b"wait") {
+        return wait(side, lcid, fields);
+    }
+    if says(first, b"drop") {
+        return drop(side, lcid, fields);
+    }
+    if says(first, b"expired") {
+        return expired(side, lcid, fields);
+    }
+    if says(first, b"fail") {
+        return fail(side, lcid, fields);
+    }
+    if says(first, b"discard") {
+        return discard(side, lcid, fields);
+    }
+    if says(first, b"integrity") {
+        return integrity(side, lcid, fields);
+    }
+    Err(TextFault::NotARecord)
 }
 
 /// What happens at one end.
 #[tactic(auto, unfolding(crate::specs::Events::event_of))]
+#[inline(never)]
 pub fn event(alloc: Global, first: &[u8], fields: &[&[u8]]) -> Result<Record, TextFault>
     ensures record { Gives result (event_of first.now (texts fields.now)) }
     ensures text { IfOk result (IsSaid (first.now ∷ texts fields.now)) }

@@ -13,19 +13,20 @@ ghost use Rattle.journal_text.specs.Fields.{bitmap_of, is_no_capital};
 ghost use Rattle.journal_text.specs.Records.{IsCount, AreOctets, IsArray};
 
 use crate::fault::TextFault;
-use air_text::{LineRefusal, is_word};
+use air_text::LineRefusal;
 use hex::decode_to_slice;
 use l2_bits::Bytes;
 use std::alloc::Global;
 use text_digits::read_hex;
 
 /// Whether a text is a word.
+#[inline(always)]
 #[tactic(auto, using(crate::proofs::Numbers::same_word))]
 pub fn says(text: &[u8], word: &[u8]) -> bool
     ensures value { result ≡ bytes_eq text.now word.now }
     ensures same { IsTrue result → text.now ≡ word.now }
 {
-    is_word(text, word)
+    text == word
 }
 
 #[tactic(auto, using(crate::proofs::Numbers::written), unfolding(crate::specs::Fields::number_to))]

@@ -30,6 +30,7 @@ fn front(fields: &[&[u8]]) -> Result<Record, TextFault>
 }
 
 #[tactic(auto, unfolding(crate::specs::Pdus::sdu_of))]
+#[inline(never)]
 fn sdu(fields: &[&[u8]]) -> Result<Record, TextFault>
     ensures record { Gives result (sdu_of (texts fields.now)) }
     ensures text { IfOk result (IsSaid (codes "mac" ∷ codes "sdu" ∷ texts fields.now)) }
@@ -43,6 +44,7 @@ fn sdu(fields: &[&[u8]]) -> Result<Record, TextFault>
 }
 
 #[tactic(auto, unfolding(crate::specs::Pdus::pad_of))]
+#[inline(never)]
 fn pad(fields: &[&[u8]]) -> Result<Record, TextFault>
     ensures record { Gives result (pad_of (texts fields.now)) }
     ensures text { IfOk result (IsSaid (codes "mac" ∷ codes "pad" ∷ texts fields.now)) }
@@ -55,6 +57,7 @@ fn pad(fields: &[&[u8]]) -> Result<Record, TextFault>
 }
 
 #[tactic(auto, unfolding(crate::specs::Pdus::truncated_of))]
+#[inline(never)]
 fn truncated(fields: &[&[u8]]) -> Result<Record, TextFault>
     ensures record { Gives result (truncated_of (texts fields.now)) }
     ensures text { IfOk result
@@ -71,6 +74,7 @@ fn truncated(fields: &[&[u8]]) -> Result<Record, TextFault>
 }
 
 #[tactic(auto, unfolding(crate::specs::Pdus::short_of))]
+#[inline(never)]
 fn short(fields: &[&[u8]]) -> Result<Record, TextFault>
     ensures record { Gives result (short_of (texts fields.now)) }
     ensures text { IfOk result
@@ -87,6 +91,7 @@ fn short(fields: &[&[u8]]) -> Result<Record, TextFault>
 }
 
 #[tactic(auto, unfolding(crate::specs::Pdus::long_of))]
+#[inline(never)]
 fn long(fields: &[&[u8]]) -> Result<Record, TextFault>
     ensures record { Gives result (long_of (texts fields.now)) }
     ensures text { IfOk result
@@ -107,6 +112,7 @@ fn long(fields: &[&[u8]]) -> Result<Record, TextFault>
 }
 
 #[tactic(auto, unfolding(crate::specs::Pdus::phr_of))]
+#[inline(never)]
 fn phr(fields: &[&[u8]]) -> Result<Record, TextFault>
     ensures record { Gives result (phr_of (texts fields.now)) }
     ensures text { IfOk result (IsSaid (codes "mac" ∷ codes "phr" ∷ texts fields.now)) }
@@ -121,6 +127,7 @@ fn phr(fields: &[&[u8]]) -> Result<Record, TextFault>
 }
 
 #[tactic(auto, unfolding(crate::specs::Pdus::crnti_of))]
+#[inline(never)]
 fn crnti(fields: &[&[u8]]) -> Result<Record, TextFault>
     ensures record { Gives result (crnti_of (texts fields.now)) }
     ensures text { IfOk result (IsSaid (codes "mac" ∷ codes "crnti" ∷ texts fields.now)) }
@@ -135,6 +142,7 @@ fn crnti(fields: &[&[u8]]) -> Result<Record, TextFault>
 }
 
 #[tactic(auto, unfolding(crate::specs::Pdus::advance_of))]
+#[inline(never)]
 fn advance(fields: &[&[u8]]) -> Result<Record, TextFault>
     ensures record { Gives result (advance_of (texts fields.now)) }
     ensures text { IfOk result (IsSaid (codes "mac" ∷ codes "ta" ∷ texts fields.now)) }
@@ -162,6 +170,7 @@ fn drx(fields: &[&[u8]]) -> Result<Record, TextFault>
 }
 
 #[tactic(auto, unfolding(crate::specs::Pdus::contention_of))]
+#[inline(never)]
 fn contention(fields: &[&[u8]]) -> Result<Record, TextFault>
     ensures record { Gives result (contention_of (texts fields.now)) }
     ensures text { IfOk result (IsSaid (codes "mac" ∷ codes "contention" ∷ texts fields.now)) }
@@ -176,6 +185,7 @@ fn contention(fields: &[&[u8]]) -> Result<Record, TextFault>
 }
 
 #[tactic(auto, unfolding(crate::specs::Pdus::transparent_of))]
+#[inline(never)]
 fn transparent(fields: &[&[u8]]) -> Result<Record, TextFault>
     ensures record { Gives result (transparent_of (texts fields.now)) }
     ensures text { IfOk result (IsSaid (codes "rlc" ∷ codes "tm" ∷ texts fields.now)) }
@@ -188,6 +198,7 @@ fn transparent(fields: &[&[u8]]) -> Result<Record, TextFault>
 }
 
 #[tactic(auto, unfolding(crate::specs::Pdus::umd_of))]
+#[inline(never)]
 fn umd(alloc: Global, fields: &[&[u8]]) -> Result<Record, TextFault>
     ensures record { Gives result (umd_of (texts fields.now)) }
     ensures text { IfOk result (IsSaid (codes "rlc" ∷ codes "um" ∷ texts fields.now)) }
@@ -202,6 +213,7 @@ fn umd(alloc: Global, fields: &[&[u8]]) -> Result<Record, TextFault>
 }
 
 #[tactic(auto, unfolding(crate::specs::Pdus::amd_of))]
+#[inline(never)]
 fn amd(alloc: Global, fields: &[&[u8]]) -> Result<Record, TextFault>
     ensures record { Gives result (amd_of (texts fields.now)) }
     ensures text { IfOk result (IsSaid (codes "rlc" ∷ codes "am" ∷ texts fields.now)) }
@@ -217,6 +229,7 @@ fn amd(alloc: Global, fields: &[&[u8]]) -> Result<Record, TextFault>
 }
 
 #[tactic(auto, unfolding(crate::specs::Pdus::segment_of))]
+#[inline(never)]
 fn segment(alloc: Global, fields: &[&[u8]]) -> Result<Record, TextFault>
     ensures record { Gives result (segment_of (texts fields.now)) }
     ensures text { IfOk result (IsSaid (codes "rlc" ∷ codes "seg" ∷ texts fields.now)) }
@@ -241,6 +254,7 @@ fn segment(alloc: Global, fields: &[&[u8]]) -> Result<Record, TextFault>
 }
 
 #[tactic(auto, unfolding(crate::specs::Pdus::status_of))]
+#[inline(never)]
 fn status(alloc: Global, fields: &[&[u8]]) -> Result<Record, TextFault>
     ensures record { Gives result (status_of (texts fields.now)) }
     ensures text { IfOk result (IsSaid (codes "rlc" ∷ codes "status" ∷ texts fields.now)) }
@@ -254,6 +268,7 @@ fn status(alloc: Global, fields: &[&[u8]]) -> Result<Record, TextFault>
 }
 
 #[tactic(auto, unfolding(crate::specs::Pdus::user_of))]
+#[inline(never)]
 fn user(fields: &[&[u8]]) -> Result<Record, TextFault>
     ensures record { Gives result (user_of (texts fields.now)) }
     ensures text { IfOk result (IsSaid (codes "pdcp" ∷ codes "data" ∷ texts fields.now)) }
@@ -267,6 +282,7 @@ fn user(fields: &[&[u8]]) -> Result<Record, TextFault>
 }
 
 #[tactic(auto, unfolding(crate::specs::Pdus::signalling_of))]
+#[inline(never)]
 fn signalling(fields: &[&[u8]]) -> Result<Record, TextFault>
     ensures record { Gives result (signalling_of (texts fields.now)) }
     ensures text { IfOk result (IsSaid (codes "pdcp" ∷ codes "srb" ∷ texts fields.now)) }
@@ -281,6 +297,7 @@ fn signalling(fields: &[&[u8]]) -> Result<Record, TextFault>
 }
 
 #[tactic(auto, unfolding(crate::specs::Pdus::status_report_of))]
+#[inline(never)]
 fn status_report(alloc: Global, fields: &[&[u8]]) -> Result<Record, TextFault>
     ensures record { Gives result (status_report_of (texts fields.now)) }
     ensures text { IfOk result (IsSaid (codes "pdcp" ∷ codes "report" ∷ texts fields.now)) }
@@ -302,17 +319,19 @@ fn bsr(fields: &[&[u8]]) -> Result<Record, TextFault>
         return Err(TextFault::NotARecord);
     };
     if says(name, b"truncated") {
-        truncated(fields)
-    } else if says(name, b"short") {
-        short(fields)
-    } else if says(name, b"long") {
-        long(fields)
-    } else {
-        Err(TextFault::NotARecord)
+        return truncated(fields);
     }
+    if says(name, b"short") {
+        return short(fields);
+    }
+    if says(name, b"long") {
+        return long(fields);
+    }
+    Err(TextFault::NotARecord)
 }
 
 #[tactic(auto, unfolding(crate::specs::Pdus::mac_of))]
+#[inline(never)]
 pub fn mac(fields: &[&[u8]]) -> Result<Record, TextFault>
     ensures record { Gives result (mac_of (texts fields.now)) }
     ensures text { IfOk result (IsSaid (codes "mac" ∷ texts fields.now)) }
@@ -321,29 +340,37 @@ pub fn mac(fields: &[&[u8]]) -> Result<Record, TextFault>
         return Err(TextFault::NotARecord);
     };
     if says(name, b"sdu") {
-        sdu(fields)
-    } else if says(name, b"pad") {
-        pad(fields)
-    } else if says(name, b"front") {
-        front(fields)
-    } else if says(name, b"bsr") {
-        bsr(fields)
-    } else if says(name, b"phr") {
-        phr(fields)
-    } else if says(name, b"crnti") {
-        crnti(fields)
-    } else if says(name, b"ta") {
-        advance(fields)
-    } else if says(name, b"drx") {
-        drx(fields)
-    } else if says(name, b"contention") {
-        contention(fields)
-    } else {
-        Err(TextFault::NotARecord)
+        return sdu(fields);
     }
+    if says(name, b"pad") {
+        return pad(fields);
+    }
+    if says(name, b"front") {
+        return front(fields);
+    }
+    if says(name, b"bsr") {
+        return bsr(fields);
+    }
+    if says(name, b"phr") {
+        return phr(fields);
+    }
+    if says(name, b"crnti") {
+        return crnti(fields);
+    }
+    if says(name, b"ta") {
+        return advance(fields);
+    }
+    if says(name, b"drx") {
+        return drx(fields);
+    }
+    if says(name, b"contention") {
+        return contention(fields);
+    }
+    Err(TextFault::NotARecord)
 }
 
 #[tactic(auto, unfolding(crate::specs::Pdus::rlc_of))]
+#[inline(never)]
 pub fn rlc(alloc: Global, fields: &[&[u8]]) -> Result<Record, TextFault>
     ensures record { Gives result (rlc_of (texts fields.now)) }
     ensures text { IfOk result (IsSaid (codes "rlc" ∷ texts fields.now)) }
@@ -352,21 +379,25 @@ pub fn rlc(alloc: Global, fields: &[&[u8]]) -> Result<Record, TextFault>
         return Err(TextFault::NotARecord);
     };
     if says(name, b"am") {
-        amd(alloc, fields)
-    } else if says(name, b"um") {
-        umd(alloc, fields)
-    } else if says(name, b"status") {
-        status(alloc, fields)
-    } else if says(name, b"seg") {
-        segment(alloc, fields)
-    } else if says(name, b"tm") {
-        transparent(fields)
-    } else {
-        Err(TextFault::NotARecord)
+        return amd(alloc, fields);
     }
+    if says(name, b"um") {
+        return umd(alloc, fields);
+    }
+    if says(name, b"status") {
+        return status(alloc, fields);
+    }
+    if says(name, b"seg") {
+        return segment(alloc, fields);
+    }
+    if says(name, b"tm") {
+        return transparent(fields);
+    }
+    Err(TextFault::NotARecord)
 }
 
 #[tactic(auto, unfolding(crate::specs::Pdus::pdcp_of))]
+#[inline(never)]
 pub fn pdcp(alloc: Global, fields: &[&[u8]]) -> Result<Record, TextFault>
     ensures record { Gives result (pdcp_of (texts fields.now)) }
     ensures text { IfOk result (IsSaid (codes "pdcp" ∷ texts fields.now)) }
@@ -375,12 +406,13 @@ pub fn pdcp(alloc: Global, fields: &[&[u8]]) -> Result<Record, TextFault>
         return Err(TextFault::NotARecord);
     };
     if says(name, b"data") {
-        user(fields)
-    } else if says(name, b"srb") {
-        signalling(fields)
-    } else if says(name, b"report") {
-        status_report(alloc, fields)
-    } else {
-        Err(TextFault::NotARecord)
+        return user(fields);
     }
+    if says(name, b"srb") {
+        return signalling(fields);
+    }
+    if says(name, b"report") {
+        return status_report(alloc, fields);
+    }
+    Err(TextFault::NotARecord)
 }

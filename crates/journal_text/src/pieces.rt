@@ -22,13 +22,19 @@ pub fn split(text: &[u8], at: u8) -> (&[u8], Option<&[u8]>)
     }
 }
 
-/// The words between two spaces, if there are at most eight.
-pub fn words<'a>(text: &'a [u8]) -> Option<ArrayVec<&'a [u8], MOST_WORDS>>
-    ensures all { IfSome result (λ words. texts words.items ≡ pieces 32 text.now) }
-    ensures more { IfNone result (8 < length (pieces 32 text.now)) }
+/// The words between two spaces, if there are at most eight: the first one, and those of what
+/// stands behind it.
+pub fn words<'a>(
+    first: &'a [u8],
+    others: Option<&'a [u8]>,
+) -> Option<ArrayVec<&'a [u8], MOST_WORDS>>
+    ensures all { IfSome result
+        (λ words. texts words.items ≡ first.now ∷ left 32 (text_in others.entry)) }
+    ensures more { IfNone result (8 < length (first.now ∷ left 32 (text_in others.entry))) }
 {
     let mut words: ArrayVec<&'a [u8], MOST_WORDS> = ArrayVec::new();
-    let mut rest = Some(text);
+    words.push(first);
+    let mut rest = others;
     while let Some(text) = rest {
         if words.is_full() {
             return None;

@@ -73,6 +73,7 @@ fn numbered(alloc: Global, text: &[u8], place: &[u8], script: &[u8]) -> Result<R
 
 // The record of a line, by what stands behind its first word.
 #[tactic(auto, unfolding(crate::specs::Reading::line_of))]
+#[inline(never)]
 fn line(alloc: Global, text: &[u8], rest: Option<&[u8]>) -> Result<Record, TextFault>
     requires { glued 32 (codes "line") (text_in rest) ≡ text.now }
     ensures record { Gives result (line_of text.now (text_in rest.entry)) }
@@ -88,40 +89,52 @@ fn line(alloc: Global, text: &[u8], rest: Option<&[u8]>) -> Result<Record, TextF
     numbered(alloc, text, place, script)
 }
 
-// A record of another kind.
+// A record of another kind. Each kind is read by a function of its own: inlined, each would take
+// its room in the reading of every record. All give the same type, so that the one who asks passes
+// a record on where it lies.
 fn named(alloc: Global, first: &[u8], fields: &[&[u8]]) -> Result<Record, TextFault>
     ensures record { Gives result (record_of first.now (texts fields.now)) }
     ensures text { IfOk result (IsSaid (first.now ∷ texts fields.now)) }
 {
     if says(first, b"mac") {
-        mac(fields)
-    } else if says(first, b"rlc") {
-        rlc(alloc, fields)
-    } else if says(first, b"pdcp") {
-        pdcp(alloc, fields)
-    } else if says(first, b"block") {
-        block(alloc, fields)
-    } else if says(first, b"air") {
-        air(fields)
-    } else if says(first, b"tti") {
-        tti(fields)
-    } else if says(first, b"sleep") {
-        sleep(fields)
-    } else if says(first, b"refused") {
-        refused(fields)
-    } else if says(first, b"loop") {
-        looped(alloc, fields)
-    } else if says(first, b"drained") {
-        drained(fields)
-    } else if says(first, b"sum") {
-        sum(fields)
-    } else {
-        event(alloc, first, fields)
+        return mac(fields);
     }
+    if says(first, b"rlc") {
+        return rlc(alloc, fields);
+    }
+    if says(first, b"pdcp") {
+        return pdcp(alloc, fields);
+    }
+    if says(first, b"block") {
+        return block(alloc, fields);
+    }
+    if says(first, b"air") {
+        return air(fields);
+    }
+    if says(first, b"tti") {
+        return tti(fields);
+    }
+    if says(first, b"sleep") {
+        return sleep(fields);
+    }
+    if says(first, b"refused") {
+        return refused(fields);
+    }
+    if says(first, b"loop") {
+        return looped(alloc, fields);
+    }
+    if says(first, b"drained") {
+        return drained(fields);
+    }
+    if says(first, b"sum") {
+        return sum(fields);
+    }
+    event(alloc, first, fields)
 }
 
 // A record of another kind, by its words.
 #[tactic(auto, unfolding(crate::specs::Reading::words_of))]
+#[inline(never)]
 fn record(alloc: Global, words: &[&[u8]]) -> Result<Record, TextFault>
     ensures record { Gives result (words_of (texts words.now)) }
     ensures text { IfOk result (IsSaid (texts words.now)) }
@@ -145,7 +158,7 @@ pub fn read_text(alloc: Global, text: &[u8]) -> Result<Record, TextFault>
     if says(first, b"line") {
         return line(alloc, text, rest);
     }
-    let Some(words) = words(text) else {
+    let Some(words) = words(first, rest) else {
         return Err(TextFault::NotARecord);
     };
     record(alloc, words.as_slice())
