@@ -123,7 +123,7 @@ config_line l (lines.Bearer config options) c before e =
     by false = e
 config_line l line c before e = e
 
-config_listed : (l : ℕ) (past : List Group)
+pub config_listed : (l : ℕ) (past : List Group)
     → is_some (config_of l past) ≡ list_any (λ n. l == n) (channels past).by_lcid
 config_listed l [] = refl
 config_listed l (g ∷ past) = config_line l g.line (channels past) (config_of l past) (config_listed l past)

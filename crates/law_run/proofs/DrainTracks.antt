@@ -267,7 +267,7 @@ module _ (P : Flow → Type 0) (call : (f : Flow) (c : BearerCall) → IsAccepte
   calls_keep l e (Move keys) h = h
 
   module _ (restart : (f : Flow) (keys : Keys) → P f → P (bearer_goes f (Restart keys))) where
-    lives_keep : (side : Side) (l : ℕ) (e : End) (c : Call) → GoesOnInLife l c ⊎ ((keys : Keys) × (c ≡ Move keys))
+    pub lives_keep : (side : Side) (l : ℕ) (e : End) (c : Call) → GoesOnInLife l c ⊎ ((keys : Keys) × (c ≡ Move keys))
         → Stands side l e → P (flow l e) → P (flow l (after_call e c))
     lives_keep side l e c (inl life) s h =
         subst P (sym (call_by l e c (come_sound side e s.come) life s.there)) (calls_keep l e c h)
@@ -288,7 +288,7 @@ module _ (kind : Kind) (side : Side) (l : ℕ) where
   stays_standing e c s g other =
       stands_more side l e c s g (λ is. let no : true ≡ false = sym is ∙ other in absurd cc)
 
-  calls_track : (cs : List Call) (e : End) → AreGiven cs → AddNone l cs → Tracks kind side l e
+  pub calls_track : (cs : List Call) (e : End) → AreGiven cs → AddNone l cs → Tracks kind side l e
       → Tracks kind side l (run_end cs e)
   calls_track [] e g none t = t
   calls_track (c ∷ cs) e g none t =
@@ -327,7 +327,7 @@ line_tracks kind l past g right order other t =
       ue = lives_track kind Ue l _ g.events _ _ ue none t.ue;
     }
 
-begun_tracks : (side : Side) (l : ℕ) (c : BearerConfig) (keys : Keys) (e : End) → c.first < 2 ^ 32
+pub begun_tracks : (side : Side) (l : ℕ) (c : BearerConfig) (keys : Keys) (e : End) → c.first < 2 ^ 32
     → HasBegun side l c keys e → Tracks c.kind side l e
 begun_tracks side l c keys e few h = record {
   stands = stands_so side l c keys e h;

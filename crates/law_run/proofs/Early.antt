@@ -27,13 +27,13 @@ use Rattle.law_run.proofs.Past.{link_behind}
 
 -- ---- a line that configures
 
-record StillRests (line : Line) (k m : Link) : Type 0 where
-  rest : IsAtRest m
-  silent : m.out ≡ k.out
-  part_is : part_of_line line ≡ Rests
-  lives_on : entries_ended line ≡ []
+pub record StillRests (line : Line) (k m : Link) : Type 0 where
+  pub rest : IsAtRest m
+  pub silent : m.out ≡ k.out
+  pub part_is : part_of_line line ≡ Rests
+  pub lives_on : entries_ended line ≡ []
 
-configures : (line : Line) (r : Rules) (k : Link) → IsInRange line → (accepted line r).begun ≡ false → IsAtRest k
+pub configures : (line : Line) (r : Rules) (k : Link) → IsInRange line → (accepted line r).begun ≡ false → IsAtRest k
     → StillRests line k (played line r.keys k)
 unfolding acted accepted Rattle.air_link.specs.Lines.visits Rattle.air_link.specs.Lines.reports
     Rattle.air_link.specs.Lines.bears Rattle.air_link.specs.Lines.discards Rattle.air_link.specs.Lines.listens

@@ -131,10 +131,10 @@ handover_still side c told h =
     (end_still side Ue (c Ue) more.first more.is_first) (loop_still side more.second more.is_second))
 
 -- nor where a bearer comes
-abbrev renews : ℕ → Line → Bool
+abbrev pub renews : ℕ → Line → Bool
 renews l line = is_handover line || adds_one l line
 
-line_still : (side : Side) (l t : ℕ) (kinds' : _) (c : Side → Channels) (line : Line) (told : List Record)
+pub line_still : (side : Side) (l t : ℕ) (kinds' : _) (c : Side → Channels) (line : Line) (told : List Record)
     → renews l line ≡ true → LineTells t kinds' c line told → tell_sender (events_of side told) ≡ false
 line_still side l t kinds' c (lines.Handover user rrc integrity) told is h = handover_still side c told h
 line_still side l t kinds' c (lines.Bearer config options) told is h =
@@ -148,7 +148,7 @@ on_by : (b : Bool) (e : Event) (told : List Event) → IsStill e → tell_sender
 on_by true e told p q = ap (λ (b : Bool). b || tell_sender told) p ∙ q
 on_by false e told p q = q
 
-on_still : (l : ℕ) (es : List Event) → tell_sender es ≡ false → tell_sender (told_on l es) ≡ false
+pub on_still : (l : ℕ) (es : List Event) → tell_sender es ≡ false → tell_sender (told_on l es) ≡ false
 on_still l [] h = refl
 on_still l (e ∷ es) h =
     let parts = both_false (is_of_sender e) (tell_sender es) h in
@@ -170,13 +170,13 @@ no_keys : (xs ys : List Keys) → xs ++ ys ≡ [] → (xs ≡ []) × (ys ≡ [])
 no_keys [] ys e = (refl, e)
 no_keys (x ∷ xs) ys e = absurd cc
 
-in_life : (l : ℕ) (cs : List Call) → AddNone l cs → moves cs ≡ [] → AllByRecursion (GoesOnInLife l) cs
+pub in_life : (l : ℕ) (cs : List Call) → AddNone l cs → moves cs ≡ [] → AllByRecursion (GoesOnInLife l) cs
 in_life l [] a m = tt
 in_life l (c ∷ cs) a m =
     let parts = no_keys (keys_in c) (moves cs) m in
     (record { adds_none = a.0; moves_none = parts.0 }, in_life l cs a.1 parts.1)
 
-moves_none : (line : Line) (keys : Option Keys) → is_handover line ≡ false → moves (lives_by line keys) ≡ []
+pub moves_none : (line : Line) (keys : Option Keys) → is_handover line ≡ false → moves (lives_by line keys) ≡ []
 moves_none (lines.Handover user rrc integrity) keys is = absurd cc
 moves_none line keys is = refl
 
@@ -255,7 +255,7 @@ module _ (side : Side) (l : ℕ) (past : List Group) (g : Group) (right : IsRigh
 
 -- ---- as a bearer comes
 
-no_events : (xs ys : List Event) → xs ++ ys ≡ [] → (xs ≡ []) × (ys ≡ [])
+pub no_events : (xs ys : List Event) → xs ++ ys ≡ [] → (xs ≡ []) × (ys ≡ [])
 no_events [] ys e = (refl, e)
 no_events (x ∷ xs) ys e = absurd cc
 
@@ -273,11 +273,17 @@ none_since side l (g ∷ past) e =
     if_none (is_handover g.line) (told_since side l past) (told_on l (events_of side g.events))
     (none_since side l past parts.0) (ap (told_on l) parts.1)
 
-begin_by : (side : Side) (past : List Group) (g : Group) (c : BearerConfig) (options : _)
+-- it begins at both ends, and nothing has been told
+pub record Comes (side : Side) (c : BearerConfig) (past : List Group) : Type 0 where
+  pub keys : Keys
+  pub begun : HasBegun side c.channel.lcid c keys (end_of side (link_behind past))
+  pub none_told : events_of side (history past) ≡ []
+
+comes_by : (side : Side) (past : List Group) (g : Group) (c : BearerConfig) (options : _)
     → IsRight past (record g { line = lines.Bearer c options }) → KeepsOrder past
-    → Since side c.channel.lcid (record g { line = lines.Bearer c options } ∷ past)
+    → Comes side c (record g { line = lines.Bearer c options } ∷ past)
 unfolding acted accepted bears
-begin_by side past g c options right order =
+comes_by side past g c options right order =
     let l = c.channel.lcid in
     let r = (state_behind past).rules in
     let k = link_behind past in
@@ -285,25 +291,33 @@ begin_by side past g c options right order =
     let f = is_first c options r k right.allowed in
     let here = both_false _ _ f.none in
     let all : List Group = record g { line = lines.Bearer c options } ∷ past in
-    let now = is_early all (right, order) f.early in
     let rest = (is_early past order f.early).rest in
-    let begun = at_each (λ s. HasBegun s l c keys (end_of s (link_behind all)))
-    (channels_begin c keys k right.in_range rest Nb here.0) (channels_begin c keys k right.in_range rest Ue here.1)
-    side in
     record {
-      sender = sender_begins side l c keys all begun;
-      runs =
-          subst (λ (es : List Event). Runs false es (has_failed (flow l (end_of side (link_behind all)))))
-          (sym (none_since side l all (now.none_told side)))
-          (runs_as false (has_failed (flow l (end_of side (link_behind all)))) false false [] refl
-          (ap has_failed begun.bearer_is ∙ begins_unfailed c.kind c keys side) (runs_still false [] refl));
+      keys = keys;
+      begun =
+          at_each (λ s. HasBegun s l c keys (end_of s (link_behind all)))
+          (channels_begin c keys k right.in_range rest Nb here.0)
+          (channels_begin c keys k right.in_range rest Ue here.1) side;
+      none_told = (is_early all (right, order) f.early).none_told side;
     }
 
-begins : (side : Side) (past : List Group) (g : Group) (c : BearerConfig) (options : _)
-    → g.line ≡ lines.Bearer c options → IsRight past g → KeepsOrder past → Since side c.channel.lcid (g ∷ past)
-begins side past g c options is right order =
-    subst (λ (line : Line). Since side c.channel.lcid (record g { line = line } ∷ past)) (sym is)
-    (begin_by side past g c options (subst (λ (line : Line). IsRight past (record g { line = line })) is right) order)
+pub comes : (side : Side) (past : List Group) (g : Group) (c : BearerConfig) (options : _)
+    → g.line ≡ lines.Bearer c options → IsRight past g → KeepsOrder past → Comes side c (g ∷ past)
+comes side past g c options is right order =
+    subst (λ (line : Line). Comes side c (record g { line = line } ∷ past)) (sym is)
+    (comes_by side past g c options (subst (λ (line : Line). IsRight past (record g { line = line })) is right) order)
+
+begins : (side : Side) (past : List Group) (c : BearerConfig) → Comes side c past → Since side c.channel.lcid past
+begins side past c h =
+    let l = c.channel.lcid in
+    let failed = has_failed (flow l (end_of side (link_behind past))) in
+    record {
+      sender = sender_begins side l c h.keys past h.begun;
+      runs =
+          subst (λ (es : List Event). Runs false es failed) (sym (none_since side l past h.none_told))
+          (runs_as false failed false false [] refl
+          (ap has_failed h.begun.bearer_is ∙ begins_unfailed c.kind c h.keys side) (runs_still false [] refl));
+    }
 
 -- ---- behind all groups
 
@@ -314,9 +328,10 @@ since_of false side l past g c is right order e rest =
     goes_since side l past g right order (rest (unchanged l g.line (config_of l past) c is e)) is
 since_of true side l past g c is right order e rest =
     let a = adds_it l g.line is in
-    subst (λ (n : ℕ). Since side n (g ∷ past)) a.lcid_is (begins side past g a.config a.options a.line_is right order)
+    subst (λ (n : ℕ). Since side n (g ∷ past)) a.lcid_is
+    (begins side (g ∷ past) a.config (comes side past g a.config a.options a.line_is right order))
 
-since : (side : Side) (l : ℕ) (past : List Group) (c : BearerConfig) → KeepsOrder past → config_of l past ≡ Some c
+pub since : (side : Side) (l : ℕ) (past : List Group) (c : BearerConfig) → KeepsOrder past → config_of l past ≡ Some c
     → Since side l past
 since side l [] c order e = absurd cc
 since side l (g ∷ past) c (right, order) e =

@@ -57,7 +57,7 @@ alone : (These : OfRecords) (l m : Link) → l.out ≡ [] → Leaves These l m �
 alone These l m nothing p = subst These (sym (p.out_is ∙ ap (λ (x : List Record). x ++ p.more) nothing)) p.in_order
 
 -- the records are written
-shown_ready : (c : Side → Channels) (l : Link) → Ready c l → Ready c (shown l)
+pub shown_ready : (c : Side → Channels) (l : Link) → Ready c l → Ready c (shown l)
 shown_ready c l r = record { nb = r.nb; ue = r.ue }
 
 -- ---- a round

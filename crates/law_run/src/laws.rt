@@ -10,6 +10,10 @@ pub fn lines_are_in_range()
 /// is told of each end, what the test loop returns and the order in which the records of each line
 /// stand are as promised. A sender that gave up sends no data PDU and gives up no more up to the
 /// next handover, and a sum tells of it exactly then.
+/// In each life of an acknowledged data bearer the data PDUs that are told of as new have the
+/// numbers 0, 1, 2, .., and those that are sent again have some of the last 512.
+/// Where a first `take` or a `discard` of acknowledged data stands, an SDU waits that was submitted
+/// before it, and no `take` has a COUNT above the next one, forged blocks or not.
 ///
 /// Where no block was forged, through any losses, repeats, delays and handovers, each acknowledged
 /// data bearer has handed up at each end exactly the SDUs that the other took before the first that

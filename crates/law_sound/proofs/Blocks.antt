@@ -37,8 +37,8 @@ use Rattle.journal_flows.specs.NumberedPdus.{written_as, come_as}
 use Rattle.journal_flows.specs.Possible.{is_possible, are_octets, most_octets}
 use Rattle.journal_flows.specs.Gathering.{Loaded, parcel_in, parcel_of, loads_parcel, loads, all_told, all_come}
 use Rattle.journal_flows.specs.FlowsTold.{Histories, histories, is_at}
-use Rattle.law_sound.specs.OwnPdus.{IsOwnPdu, AreOwn}
-use Rattle.law_sound.specs.SentNumbers.{IsNumber, next_by, next_behind, AreNumbers}
+use Rattle.promises.specs.OwnPdus.{IsOwnPdu, AreOwn}
+use Rattle.promises.specs.SentNumbers.{IsNumber, next_by, next_behind, AreNumbers}
 use Rattle.law_sound.proofs.Agreeing.{Agrees}
 use Rattle.law_sound.proofs.Events.{with_come, agrees_arrived}
 use Rattle.law_sound.proofs.Numbering.{own_last, behind_all}

@@ -24,7 +24,7 @@ use Rattle.journal_flows.specs.Laws.{bearer_by, bearer_on}
 use Rattle.journal_delivered.specs.RightDelivery.{IsDelivered, sdus_told, since_bearer, first_by, is_acked_data}
 use Rattle.law_sound.specs.ComingLaws.{TellsFlows}
 use Rattle.law_sound.specs.DeliveryLaw.{DeliveredFollows}
-use Rattle.law_sound.specs.WaitingSdus.{SdusWait}
+use Rattle.promises.specs.WaitingSdus.{SdusWait}
 use Rattle.law_sound.proofs.Coming.{same_counts_come}
 use Rattle.law_sound.proofs.Groups.{tells_before}
 use Rattle.law_sound.proofs.Submitting.{sdus_are_told, left_by}

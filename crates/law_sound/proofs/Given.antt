@@ -27,7 +27,7 @@ use Rattle.journal_um.specs.UmEvents as um
 use Rattle.journal_flows.specs.NumberedPdus.{Told, told}
 use Rattle.journal_flows.specs.Gathering.{all_told, taken_as, report_as, reorder_as, told_by}
 use Rattle.journal_flows.specs.FlowsTold.{Histories, histories, is_at}
-use Rattle.law_sound.specs.Bearers.{IsCounted}
+use Rattle.promises.specs.Bearers.{IsCounted}
 use Rattle.law_sound.proofs.Agreeing.{Agrees}
 use Rattle.law_sound.proofs.Events.{IsIdle, agrees_given}
 use Rattle.law_sound.proofs.Telling.{flow, IsApart, apart_all, told_own}

@@ -18,7 +18,7 @@ use Rattle.promises.specs.Heard.{Heard, empties, deeds_of, visits}
 use Rattle.promises.specs.Parts.{Part, Submits, Passes, Drains, Rests, part_of_line, is_handover}
 use Rattle.promises.specs.RightAir.{FliesInDrain, is_of_time, Ttis, HasItsTtis, AirIsRight, GroupIsRight}
 use Rattle.journal_air.proofs.Tellings.{AllAir}
-use Rattle.law_sound.specs.FewVisits.{VisitsAreFew}
+use Rattle.promises.specs.FewVisits.{VisitsAreFew}
 use Rattle.law_sound.proofs.Flown.{IsTtiTold, Processes, behind, AllResent}
 use Rattle.law_sound.proofs.GroupAir.{processes, passes_told, drains_told, behind_line, group_heard}
 use Rattle.law_sound.proofs.GroupAir.{none_moved, resent_of}

@@ -34,12 +34,12 @@ use Rattle.journal_flows.specs.Gathering.{Journal, Sending, MayTake, nothing_sen
 use Rattle.journal_flows.specs.Gathering.{behind_records, behind_end, within}
 use Rattle.journal_flows.specs.FlowsTold.{Histories, no_events, histories}
 use Rattle.journal_flows.specs.Gathering as gathering
-use Rattle.law_sound.specs.Bearers.{IsEarly, BeginsFirst, TellsCount}
-use Rattle.law_sound.specs.OwnPdus.{AreOwn}
+use Rattle.promises.specs.Bearers.{IsEarly, BeginsFirst, TellsCount}
+use Rattle.promises.specs.OwnPdus.{AreOwn}
 use Rattle.law_sound.specs.ComingLaws.{TellsFlows}
 use Rattle.law_sound.proofs.SinglePdus.{AreSingle}
 use Rattle.law_sound.proofs.Singles.{group_single}
-use Rattle.law_sound.specs.SentNumbers.{AreNumbers, sent_in, sent_since}
+use Rattle.promises.specs.SentNumbers.{AreNumbers, sent_in, sent_since}
 use Rattle.law_sound.proofs.Agreeing.{Agrees, agrees_ended}
 use Rattle.law_sound.proofs.GroupAir.{blocks_behind, begun, all_sent}
 use Rattle.law_sound.proofs.AtOnce.{flown_at_once}

@@ -24,3 +24,4 @@ pub mod Quiet
 pub mod AtOnce
 pub mod Singles
 pub mod SinglePdus
+pub mod Running

@@ -35,8 +35,8 @@ use Rattle.journal_flows.specs.Possible.{is_possible, most_octets}
 use Rattle.journal_flows.specs.UmPdus.{um_parcel_by}
 use Rattle.journal_flows.specs.Gathering.{Loaded, parcel_in, loads_parcel}
 use Rattle.journal_flows.specs.FlowsTold.{Histories, histories, is_at}
-use Rattle.law_sound.specs.OwnPdus.{IsOwnData, IsOwnPdu}
-use Rattle.law_sound.specs.SentNumbers.{IsNumber, IsWritten, next_by}
+use Rattle.promises.specs.OwnPdus.{IsOwnData, IsOwnPdu}
+use Rattle.promises.specs.SentNumbers.{IsNumber, IsWritten, next_by}
 use Rattle.law_sound.proofs.Agreeing.{Agrees}
 use Rattle.law_sound.proofs.Events.{with_size, agrees_written}
 use Rattle.law_sound.proofs.Numbering.{written_last, is_no_next}

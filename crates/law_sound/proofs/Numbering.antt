@@ -9,7 +9,7 @@ use Rattle.l2_types.specs.declared.event.How.{How}
 use Rattle.l2_types.specs.declared.event.How.TheVariants as hows
 use Rattle.bearer_types.specs.declared.event.Event.TheVariants.{Send}
 use Rattle.promises.specs.Names.{SentPdu}
-use Rattle.law_sound.specs.SentNumbers.{IsWritten, next_by, next_behind, AreNumbers}
+use Rattle.promises.specs.SentNumbers.{IsWritten, next_by, next_behind, AreNumbers}
 use Rattle.law_sound.proofs.SinglePdus.{new_in}
 
 pub own_last : (n count : ℕ) → n < count → count ≤ n + AM_MODULUS → last_with (n % AM_MODULUS) count ≡ n

@@ -39,12 +39,12 @@ use Rattle.journal_flows.specs.FlowsTold.{Histories, histories}
 use Rattle.journal_flows.specs.Gathering.{Journal, Sending, MayTake, sending_of, with_flows, names}
 use Rattle.journal_flows.specs.Gathering.{behind_record, behind_records, behind_landing, all_come, sent_last, told_by}
 use Rattle.journal_flows.specs.Gathering.{sdus_read, holds, resends, all_told}
-use Rattle.law_sound.specs.Bearers.{TellsCount, IsCounted}
-use Rattle.law_sound.specs.OwnPdus.{AreOwn}
+use Rattle.promises.specs.Bearers.{TellsCount, IsCounted}
+use Rattle.promises.specs.OwnPdus.{AreOwn}
 use Rattle.law_sound.proofs.SinglePdus.{new_in}
 use Rattle.law_sound.proofs.Pending.{ComesSoon, AllComeSoon}
 use Rattle.law_sound.proofs.Pending as soon
-use Rattle.law_sound.specs.SentNumbers.{AreNumbers, sent_in}
+use Rattle.promises.specs.SentNumbers.{AreNumbers, sent_in}
 use Rattle.law_sound.proofs.Numbering.{behind_all, behind_both, numbers_first, numbers_rest, new_one, news_push}
 use Rattle.law_sound.proofs.Loading.{name_of}
 use Rattle.law_sound.proofs.Blocks.{other_loads, other_lands}

@@ -9,7 +9,7 @@ use Rattle.std.proofs.lemmas.Bool.{cases_eq, eq-eqb, ne_eqb}
 use Rattle.std.proofs.lemmas.List.{length-append, length_push}
 use Rattle.promises.specs.Taken.{were_taken, chosen}
 use Rattle.journal_takes.specs.TakeEvents.{TakeEvent, SduSubmitted, SduDiscarded, PduTaken, next_new, kept, without}
-use Rattle.law_sound.specs.WaitingSdus.{Queue, MayLeave}
+use Rattle.promises.specs.WaitingSdus.{Queue, MayLeave}
 
 abbrev Sdus : Type 0
 Sdus = List (List ℕ)

@@ -20,7 +20,7 @@ use Rattle.promises.specs.Given.{entries_given}
 use Rattle.promises.specs.Names.{SentPdu}
 use Rattle.promises.specs.Order.{EndTells, LoopTells, IsOfLoop, HandoverTells, Channels, of_leaving}
 use Rattle.promises.specs.Records.{sent_last}
-use Rattle.law_sound.specs.SentNumbers.{sent_in}
+use Rattle.promises.specs.SentNumbers.{sent_in}
 use Rattle.law_sound.proofs.Given.{none_given}
 use Rattle.law_sound.proofs.Records.{none_sent_by, sent_next}
 

@@ -28,9 +28,9 @@ use Rattle.promises.specs.Taken.{leaving_in}
 use Rattle.journal_takes.specs.TakeEvents.{TakeEvent, SduSubmitted, SduDiscarded, PduTaken}
 use Rattle.journal_flows.specs.Laws.{begins_on}
 use Rattle.journal_delivered.specs.RightDelivery.{record_tells, records_tell, sdus_told, since_bearer}
-use Rattle.law_sound.specs.Bearers.{IsEarly, IsFirst, BeginsFirst, BearersBeginFirst}
-use Rattle.law_sound.specs.WaitingSdus.{Queue, AllMayLeave, EachMayLeave, after_record, after_records}
-use Rattle.law_sound.specs.WaitingSdus.{with_line, queue, SdusWait}
+use Rattle.promises.specs.Bearers.{IsEarly, IsFirst, BeginsFirst, BearersBeginFirst}
+use Rattle.promises.specs.WaitingSdus.{Queue, AllMayLeave, EachMayLeave, after_record, after_records}
+use Rattle.promises.specs.WaitingSdus.{with_line, queue, SdusWait}
 use Rattle.law_sound.proofs.Sdus.{SdusAgree, none_agree, submitted_agrees, discarded_agrees, taken_agrees}
 use Rattle.law_sound.proofs.Sdus.{queue_of, discard_waits, take_waits}
 

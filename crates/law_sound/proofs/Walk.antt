@@ -28,9 +28,9 @@ use Rattle.journal_flows.specs.declared.parcels.Parcel.{Parcel}
 use Rattle.journal_flows.specs.declared.sending.Named.{Named}
 use Rattle.journal_flows.specs.FlowsTold.{Histories, histories}
 use Rattle.journal_flows.specs.Gathering.{Sending, Loaded, loads, sdus_read, holds, resends, all_come, sent_last}
-use Rattle.law_sound.specs.OwnPdus.{AreOwn}
+use Rattle.promises.specs.OwnPdus.{AreOwn}
 use Rattle.law_sound.proofs.Pending.{Pending, with_new_block}
-use Rattle.law_sound.specs.SentNumbers.{AreNumbers}
+use Rattle.promises.specs.SentNumbers.{AreNumbers}
 use Rattle.law_sound.proofs.Agreeing.{Agrees}
 use Rattle.law_sound.proofs.Flying.{Flying, with_new, with_again, with_other}
 use Rattle.law_sound.proofs.Numbering.{behind_all, behind_is, news}

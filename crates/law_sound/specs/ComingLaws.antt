@@ -14,10 +14,10 @@ use Rattle.promises.specs.Telling.{LinesTell}
 use Rattle.journal_lives.specs.LifeEvents.{count_came}
 use Rattle.journal_flows.specs.Gathering.{MayTake}
 use Rattle.journal_flows.specs.FlowsTold.{flows_told}
-use Rattle.law_sound.specs.Bearers.{BearersBeginFirst, CountsAreTold}
-use Rattle.law_sound.specs.OwnPdus.{PdusAreOwn}
-use Rattle.law_sound.specs.SentNumbers.{NumbersAreSent}
-use Rattle.law_sound.specs.FewVisits.{VisitsAreFew}
+use Rattle.promises.specs.Bearers.{BearersBeginFirst, CountsAreTold}
+use Rattle.promises.specs.OwnPdus.{PdusAreOwn}
+use Rattle.promises.specs.SentNumbers.{NumbersAreSent}
+use Rattle.promises.specs.FewVisits.{VisitsAreFew}
 
 -- a journal tells of its flows as a run does: new blocks have right form, the air is right, records
 -- stand in their order, bearers stand first, SDUs are taken with their COUNTs, numbers are sent in

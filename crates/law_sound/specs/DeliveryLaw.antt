@@ -7,7 +7,7 @@ use Rattle.promises.specs.Delivery.{is_forged}
 use Rattle.journal_flows.specs.Gathering.{MayTake}
 use Rattle.journal_delivered.specs.RightDelivery.{DeliveredIsRight}
 use Rattle.law_sound.specs.ComingLaws.{TellsFlows}
-use Rattle.law_sound.specs.WaitingSdus.{SdusWait}
+use Rattle.promises.specs.WaitingSdus.{SdusWait}
 
 -- where no block was forged
 abbrev pub DeliveredFollows : Type 0

@@ -2,6 +2,7 @@
 //! does nothing.
 ghost use Rattle.law_sound.specs.ComingLaws.{SameCountsCome};
 ghost use Rattle.law_sound.specs.DeliveryLaw.{DeliveredFollows};
+ghost use Rattle.law_sound.specs.RunLaws.{RunsTellFlows, RunsDeliver};
 
 /// Which COUNTs have come of acknowledged data is the same by the octets of its PDUs and by the
 /// history of its flow.
@@ -13,4 +14,15 @@ pub fn same_counts_come()
 /// promised.
 pub fn delivered_follows()
     ensures { DeliveredFollows }
+{}
+
+/// The journal of every script tells of its flows so, as is promised of it.
+pub fn runs_tell_flows()
+    ensures { RunsTellFlows }
+{}
+
+/// So what the journal of every script hands up of acknowledged data is right as its checker asks
+/// it of any journal, through any losses, repeats, delays and handovers, where no block was forged.
+pub fn runs_deliver()
+    ensures { RunsDeliver }
 {}

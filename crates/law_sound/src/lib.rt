@@ -1,7 +1,8 @@
 //! What goes up of acknowledged data in a journal is right, as its checker asks it, where the
-//! journal tells of its flows as a run does. Each function does nothing: its contract is the law.
+//! journal tells of its flows as a run does; so it is in the journal of every script that forges no
+//! block. Each function does nothing: its contract is the law.
 #![tactic(auto)]
 
 mod laws;
 
-pub use laws::{delivered_follows, same_counts_come};
+pub use laws::{delivered_follows, runs_deliver, runs_tell_flows, same_counts_come};

@@ -3,6 +3,7 @@
 use Rattle.std.specs.Prelude.{ℕ, List, map, Bool, true, false, ◌==◌, not, ◌&&◌, if◌then◌else◌, []}
 use Rattle.std.specs.Prelude.{◌∷◌, ◌++◌}
 use Rattle.std.specs.List.{filter}
+use Rattle.air_record.specs.Submissions.{refuses}
 use Rattle.air_record.specs.declared.record.Record.{Record}
 use Rattle.promises.specs.Records.{is_looped, sdu_of, ups_in}
 use Rattle.l2_types.specs.declared.side.Side.{Side}
@@ -10,16 +11,10 @@ use Rattle.bearer_types.specs.Sides.{is_same}
 use Rattle.promises.specs.Parts.{Part, Submits, part_of_line}
 use Rattle.l2_types.specs.declared.side.Side.TheVariants.{Nb, Ue}
 use Rattle.air_text.specs.Groups.{Group}
-use Rattle.air_record.specs.declared.record.Record.TheVariants as records
 
 -- the SDUs that the test loop submits, on a channel
 abbrev pub loops_in : ℕ → List Record → List (List ℕ)
 loops_in lcid told = map sdu_of (filter (is_looped lcid) told)
-
--- a record refuses an SDU of a side, on a channel
-abbrev pub refuses : Side → ℕ → Record → Bool
-refuses side lcid (records.Refused s l why) = is_same s side && l == lcid
-refuses side lcid one = false
 
 abbrev pub is_refused_at_once : Side → ℕ → List Record → Bool
 is_refused_at_once side lcid [] = false

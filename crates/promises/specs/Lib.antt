@@ -33,3 +33,8 @@ pub mod Limits
 pub mod HalfWindow
 pub mod RightAir
 pub mod RightForm
+pub mod Bearers
+pub mod SentNumbers
+pub mod OwnPdus
+pub mod FewVisits
+pub mod WaitingSdus

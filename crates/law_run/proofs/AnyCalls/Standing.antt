@@ -125,10 +125,10 @@ times_tells side c l r =
     (end_tells (of_timers c) side es m (tells_no_loop e Tick) (ticks_in_order side c e r)))
 
 -- the terminal's end is the same behind the base station's timers
-times_base : (l : Link) → (times Nb l).ue ≡ l.ue
+pub times_base : (l : Link) → (times Nb l).ue ≡ l.ue
 times_base l = ap (λ (s : Seen). s.ue) (told_seen Nb (ticked l.nb).events (ticks Nb l))
 
-keeps_if : (b : Bool) (l : Link) → Leaves LoopTells l (if b then loops l else l)
+pub keeps_if : (b : Bool) (l : Link) → Leaves LoopTells l (if b then loops l else l)
 keeps_if true l = loops_tells l
 keeps_if false l = loop_rests l l refl
 
@@ -430,7 +430,7 @@ both_tell c t up_grant up down_grant down l alike up_within within r =
     (leaves_then LoopTells (MayPassOver Ue t l.kinds c) m n p (loops_tells m) last)
 
 -- before the blocks both ends went on
-both_fly : (c : Side → Channels) (t up_grant : ℕ) (up : Outcome) (down_grant : ℕ) (down : Outcome) (l m : Link)
+pub both_fly : (c : Side → Channels) (t up_grant : ℕ) (up : Outcome) (down_grant : ℕ) (down : Outcome) (l m : Link)
     → c Nb ≡ c Ue → up_grant ≤ 9422 → down_grant ≤ 9422 → GoesOn [] l m → Ready c l
     → Leaves (BothPassOver t l.kinds c) m (uplink t up_grant up (loops (downlink t down_grant down m)))
 both_fly c t up_grant up down_grant down l m alike up_within within g r =

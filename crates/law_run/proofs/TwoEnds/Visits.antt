@@ -284,7 +284,7 @@ not_looped : (n : ℕ) (one : Record) → looped one ≡ [] → is_looped n one 
 not_looped n (records.Looped lcid octets) e = absurd cc
 not_looped n one e = refl
 
-silent_unlooped : (n : ℕ) (told : List Record) → AllByRecursion IsSilent told → loops_in n told ≡ []
+pub silent_unlooped : (n : ℕ) (told : List Record) → AllByRecursion IsSilent told → loops_in n told ≡ []
 silent_unlooped n [] a = refl
 silent_unlooped n (one ∷ more) a = unlooped_by n one more (not_looped n one a.0.0) (silent_unlooped n more a.1)
 

@@ -1,0 +1,5 @@
+pub mod Sender
+pub mod Bearers
+pub mod Ends
+pub mod Lines
+pub mod Groups

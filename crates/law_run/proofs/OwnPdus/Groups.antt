@@ -1,0 +1,160 @@
+-- Behind the groups of every journal the data PDUs that are written carry octets of their own numbers.
+use Rattle.std.proofs.Common.{◌≡◌, ℕ, Bool, true, false, if◌then◌else◌, Some, List, [], ◌∷◌, ◌++◌, refl, ap}
+use Rattle.std.proofs.Common.{sym, subst, ◌∙◌}
+use Rattle.air_link.specs.Lines.{bears}
+use Rattle.air_link.specs.Link.{Link, end_of}
+use Rattle.air_record.specs.declared.line.Line.{Line}
+use Rattle.air_record.specs.declared.line.Line.TheVariants as lines
+use Rattle.air_record.specs.declared.record.Record.{Record}
+use Rattle.air_run.specs.Playing.{keys_or_none, acted}
+use Rattle.air_run.specs.Rules.{accepted}
+use Rattle.air_run.specs.Run.{behind_line}
+use Rattle.air_text.specs.Groups.{Group}
+use Rattle.bearer.specs.Acknowledged.State.{fresh as fresh_am}
+use Rattle.bearer.specs.Bearer.{flow_of}
+use Rattle.bearer_types.specs.declared.config.BearerConfig.{BearerConfig}
+use Rattle.eps_sec.specs.declared.Keys.{Keys}
+use Rattle.l2_node.specs.End.{End}
+use Rattle.l2_types.specs.declared.channel.Kind.{Kind}
+use Rattle.l2_types.specs.declared.channel.Kind.TheVariants.{Am}
+use Rattle.l2_types.specs.declared.side.Side.{Side}
+use Rattle.l2_types.specs.declared.side.Side.TheVariants.{Nb, Ue}
+use Rattle.pdcp_pdu.specs.declared.PdcpKind.TheVariants.{Am as AmKind}
+use Rattle.law_deliver.specs.AmChannel.Delivery.{HasBegun}
+use Rattle.law_deliver.specs.AmChannel.Lives.{lives, end_at}
+use Rattle.law_deliver.specs.AmFlow.Air.{Air, outset}
+use Rattle.law_deliver.proofs.AmChannel.Delivery.{stands_so}
+use Rattle.law_words.specs.Arrivals.{AccountEntry, Account, no_account, account}
+use Rattle.prioritise.proofs.ChannelLemmas.{both_false}
+use Rattle.promises.specs.Arrival.{entries_in, entries_ended, entries_from}
+use Rattle.promises.specs.Configs.{config_by, config_of}
+use Rattle.promises.specs.OwnPdus.{AreOwn, PdusAreOwn}
+use Rattle.law_run.specs.Order.{state_behind, IsRight, KeepsOrder}
+use Rattle.law_run.specs.TwoEnds.On.{IsOn}
+use Rattle.law_run.proofs.Delivering.{is_first, at_each}
+use Rattle.law_run.proofs.Early.{is_early}
+use Rattle.law_run.proofs.OwnPdus.Ends.{OwnsAt, OwnTo, steps_to, own_then, account_then}
+use Rattle.law_run.proofs.OwnPdus.Lines.{line_flies}
+use Rattle.law_run.proofs.OwnPdus.Sender.{start_owns}
+use Rattle.law_run.proofs.Past.{behind, link_behind}
+use Rattle.law_run.proofs.Texts.{adds_one, adds_it, unchanged}
+use Rattle.law_run.proofs.TwoEnds.Coming.{same_on}
+use Rattle.law_run.proofs.TwoEnds.Lives.{channels_begin}
+
+abbrev told : ℕ → ℕ → Side → List Group → Account
+told bits l from past = account (entries_from bits l from past) no_account
+
+-- a channel of acknowledged data, behind groups
+record Owning (l bits : ℕ) (from : Side) (past : List Group) : Type 0 where
+  own : AreOwn no_account (entries_from bits l from past)
+  air : Air
+  on : IsOn (link_behind past) air
+  at : OwnsAt from l (told bits l from past).rlc.fields (end_at from air)
+
+-- ---- a line since
+
+goes_on : (l bits : ℕ) (from : Side) (past : List Group) (g : Group) → IsRight past g → KeepsOrder past
+    → adds_one l g.line ≡ false → Owning l bits from past → Owning l bits from (g ∷ past)
+goes_on l bits from past g right order other h =
+    let k = link_behind past in
+    let m = behind_line g.line (state_behind past) in
+    let first = entries_from bits l from past in
+    let more = entries_ended g.line ++ entries_in bits l from [] g.events in
+    let a = told bits l from past in
+    let x = line_flies l h.air g.line (state_behind past).rules.keys k (behind past order).nothing right.in_range other
+    h.on in
+    let e = end_at from (lives x.steps x.first) in
+    let is = x.happened_is bits from
+    ∙ ap (λ (out : List Record). entries_ended g.line ++ entries_in bits l from [] out) (sym right.events_are) in
+    let w : OwnTo from l a more e = subst (λ (hs : List AccountEntry). OwnTo from l a hs e) is
+    (steps_to from bits l x.steps x.first a x.living (x.keeps from a.rlc.fields h.at)) in
+    record {
+      own = own_then first more no_account h.own w.own;
+      air = lives x.steps x.first;
+      on = same_on m (link_behind (g ∷ past)) (lives x.steps x.first) refl refl refl x.on;
+      at = subst (λ (b : Account). OwnsAt from l b.rlc.fields e) (sym (account_then first more no_account)) w.at;
+    }
+
+-- ---- the line in which its bearers come
+
+fresh_at : (c : BearerConfig) (keys : Keys) (side : Side) (e : End) → c.kind ≡ Am
+    → HasBegun side c.channel.lcid c keys e → OwnsAt side c.channel.lcid [] e
+unfolding fresh_am
+fresh_at c keys side e kind h = record {
+  stands = stands_so side c.channel.lcid c keys e h;
+  bearer = fresh_am c (AmKind c.pdcp_bits) keys side;
+  bearer_is = h.bearer_is ∙ ap (λ (x : Kind). flow_of x c keys side) kind;
+  owns = start_owns c.tx;
+}
+
+outset_at : (from : Side) (k : Link) → end_at from (outset k.nb k.ue) ≡ end_of from k
+outset_at Nb k = refl
+outset_at Ue k = refl
+
+begin_by : (bits : ℕ) (from : Side) (past : List Group) (g : Group) (c : BearerConfig) (options : _) → c.kind ≡ Am
+    → IsRight past (record g { line = lines.Bearer c options }) → KeepsOrder past
+    → Owning c.channel.lcid bits from (record g { line = lines.Bearer c options } ∷ past)
+unfolding acted accepted bears
+begin_by bits from past g c options kind right order =
+    let l = c.channel.lcid in
+    let r = (state_behind past).rules in
+    let k = link_behind past in
+    let keys = keys_or_none r.keys in
+    let f = is_first c options r k right.allowed in
+    let here = both_false _ _ f.none in
+    let all : List Group = record g { line = lines.Bearer c options } ∷ past in
+    let now = is_early all (right, order) f.early in
+    let rest = (is_early past order f.early).rest in
+    let there = link_behind all in
+    let begun = at_each (λ s. HasBegun s l c keys (end_of s there))
+    (channels_begin c keys k right.in_range rest Nb here.0) (channels_begin c keys k right.in_range rest Ue here.1)
+    from in
+    let none = sym (now.none_happened bits l from) in
+    record {
+      own = subst (λ (hs : List AccountEntry). AreOwn no_account hs) none tt;
+      air = outset there.nb there.ue;
+      on = now.rest;
+      at =
+          subst (λ (e : End). OwnsAt from l (told bits l from all).rlc.fields e) (sym (outset_at from there))
+          (subst (λ (hs : List AccountEntry). OwnsAt from l (account hs no_account).rlc.fields (end_of from there)) none
+          (fresh_at c keys from (end_of from there) kind begun));
+    }
+
+begins : (bits : ℕ) (from : Side) (past : List Group) (g : Group) (c : BearerConfig) (options : _)
+    → g.line ≡ lines.Bearer c options → c.kind ≡ Am → IsRight past g → KeepsOrder past
+    → Owning c.channel.lcid bits from (g ∷ past)
+begins bits from past g c options is kind right order =
+    subst (λ (line : Line). Owning c.channel.lcid bits from (record g { line = line } ∷ past)) (sym is)
+    (begin_by bits from past g c options kind
+    (subst (λ (line : Line). IsRight past (record g { line = line })) is right) order)
+
+-- ---- behind all groups
+
+owning_by : (b : Bool) (l bits : ℕ) (from : Side) (past : List Group) (g : Group) (c : BearerConfig)
+    → adds_one l g.line ≡ b → IsRight past g → KeepsOrder past → config_of l (g ∷ past) ≡ Some c → c.kind ≡ Am
+    → (config_of l past ≡ Some c → Owning l bits from past) → Owning l bits from (g ∷ past)
+owning_by false l bits from past g c is right order e kind rest =
+    goes_on l bits from past g right order is (rest (unchanged l g.line (config_of l past) c is e))
+owning_by true l bits from past g c is right order e kind rest =
+    let a = adds_it l g.line is in
+    let taken : config_by l (lines.Bearer a.config a.options) (config_of l past) ≡ Some a.config =
+    ap (λ (b : Bool). if b then Some a.config else config_of l past) (sym (ap (adds_one l) a.line_is) ∙ is) in
+    let some : Some a.config ≡ Some c =
+    sym taken ∙ ap (λ (line : Line). config_by l line (config_of l past)) (sym a.line_is) ∙ e in
+    let same : a.config ≡ c = cc in
+    subst (λ (n : ℕ). Owning n bits from (g ∷ past)) a.lcid_is
+    (begins bits from past g a.config a.options a.line_is (ap (λ (d : BearerConfig). d.kind) same ∙ kind) right order)
+
+owning : (l bits : ℕ) (from : Side) (past : List Group) (c : BearerConfig) → KeepsOrder past
+    → config_of l past ≡ Some c → c.kind ≡ Am → Owning l bits from past
+owning l bits from [] c order e kind = absurd cc
+owning l bits from (g ∷ past) c (right, order) e kind =
+    owning_by (adds_one l g.line) l bits from past g c refl right order e kind
+    (λ is. owning l bits from past c order is kind)
+
+pub pdus_are_own : (past : List Group) → KeepsOrder past → PdusAreOwn past
+pdus_are_own [] order = tt
+pdus_are_own (g ∷ past) (right, order) = (
+  λ from lcid config is kind. (owning lcid config.pdcp_bits from (g ∷ past) config (right, order) is kind).own,
+  pdus_are_own past order,
+)

@@ -1,0 +1,9 @@
+pub mod Counting
+pub mod Sender
+pub mod Ends
+pub mod Lines
+pub mod Calm
+pub mod Walking
+pub mod Ttis
+pub mod Drains
+pub mod Groups

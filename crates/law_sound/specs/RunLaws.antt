@@ -1,0 +1,21 @@
+-- How the run of a script tells of its flows, and so what it hands up of acknowledged data: of each
+-- journal as it is promised of every script.
+use Rattle.std.specs.Prelude.{◌≡◌, ℕ, Bool, false, List}
+use Rattle.air_run.specs.Journal.{RunPlayed}
+use Rattle.promises.specs.Delivery.{is_forged}
+use Rattle.journal_flows.specs.Gathering.{MayTake}
+use Rattle.journal_delivered.specs.RightDelivery.{DeliveredIsRight}
+use Rattle.law_run.specs.Promises.{IsPromised}
+use Rattle.law_sound.specs.ComingLaws.{TellsFlows}
+
+abbrev pub RunsTellFlows : Type 0
+RunsTellFlows =
+    (whole : Bool) (octets : List ℕ) (played : RunPlayed) (p : IsPromised whole octets played)
+    → TellsFlows p.past
+
+-- right as the checker of any journal asks it, where no block was forged
+abbrev pub RunsDeliver : Type 0
+RunsDeliver =
+    (may_take : MayTake) (whole : Bool) (octets : List ℕ) (played : RunPlayed)
+    (p : IsPromised whole octets played) → is_forged p.past ≡ false
+    → DeliveredIsRight may_take p.past
