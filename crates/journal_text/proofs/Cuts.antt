@@ -7,7 +7,7 @@ use Rattle.std.specs.Borrow.{Bor}
 use Rattle.memchr.specs.Find.{IsFirstByte, is_byte}
 use Rattle.air_text.specs.Words.{texts}
 use Rattle.air_record.specs.Text.{worded, ended, commas, comma_before}
-use Rattle.journal_text.specs.Pieces.{before, behind, onto_first, pieces, left, glued}
+use Rattle.journal_text.specs.Pieces.{before, behind, onto_first, pieces, left, parts, glued}
 
 -- ---- the first of a kind
 
@@ -121,7 +121,7 @@ pub commas-joined : (ws : List (List ℕ)) → commas ws ≡ joined_by 44 ws
 commas-joined [] = refl
 commas-joined (w ∷ ws) = ap (λ (r : List ℕ). w ++ r) (commas-parted ws)
 
-ended-parted : (ws : List (List ℕ)) → ended ws ≡ parted 32 ws ++ 10 ∷ []
+pub ended-parted : (ws : List (List ℕ)) → ended ws ≡ parted 32 ws ++ 10 ∷ []
 ended-parted [] = refl
 ended-parted (w ∷ ws) =
     ap (λ (r : List ℕ). 32 ∷ r)
@@ -200,13 +200,17 @@ pieces-joined at w (v ∷ ws) same h =
 
 -- ---- more pieces than some
 
-texts-long : (words : List (Bor (List ℕ))) → length (texts words) ≡ length words
+pub texts-long : (words : List (Bor (List ℕ))) → length (texts words) ≡ length words
 texts-long [] = refl
 texts-long (w ∷ ws) = ap suc (texts-long ws)
 
-pub beyond_full : (words : List (Bor (List ℕ))) (text : List ℕ) (all : List (List ℕ))
-    → texts words ++ pieces 32 text ≡ all → length words ≡ 8 → 8 < length all
-beyond_full words text all h full =
-    let both = length-append (texts words) (pieces 32 text) in
+some-parts : (n : ℕ) (text : List ℕ) → 0 < length (parts 32 n (Some text))
+some-parts zero text = omega arith
+some-parts (suc n) text = omega arith
+
+pub beyond_full : (n : ℕ) (words : List (Bor (List ℕ))) (text : List ℕ) (all : List (List ℕ))
+    → texts words ++ parts 32 n (Some text) ≡ all → length words ≡ 8 → 8 < length all
+beyond_full n words text all h full =
+    let both = length-append (texts words) (parts 32 n (Some text)) in
     let whole = ap (λ (ws : List (List ℕ)). length ws) h in
-    omega (arith, both, whole, texts-long words, some-pieces 32 text, full)
+    omega (arith, both, whole, texts-long words, some-parts n text, full)

@@ -10,3 +10,4 @@ pub mod OwnWords
 pub mod OwnFields
 pub mod OwnLines
 pub mod Many
+mod Parts

@@ -28,18 +28,18 @@ either true x y first second = first
 either false x y first second = second
 
 -- reading that answers, or has no record
-abbrev Answers : {A : Type 0} → Result A TextFault → Type 0
+abbrev pub Answers : {A : Type 0} → Result A TextFault → Type 0
 Answers (Ok x) = Unit {0}
 Answers (Err NotARecord) = Unit {0}
 Answers (Err NoMemory) = ⊥
 
-then-none : {A : Type 0} (r : Result A TextFault) (f : A → Result Record TextFault) → Answers r
+pub then-none : {A : Type 0} (r : Result A TextFault) (f : A → Result Record TextFault) → Answers r
     → ((x : A) → f x ≡ none) → (r >>= f) ≡ none
 then-none (Ok x) f answers h = h x
 then-none (Err NotARecord) f answers h = refl
 then-none (Err NoMemory) f answers h = absurd answers
 
-side-answers : (w : List ℕ) → Answers (side_of w)
+pub side-answers : (w : List ℕ) → Answers (side_of w)
 unfolding side_of
 side-answers w = by (bytes_eq w (codes "ue")) (bytes_eq w (codes "nb"))
   where
@@ -48,7 +48,7 @@ side-answers w = by (bytes_eq w (codes "ue")) (bytes_eq w (codes "nb"))
     by false true = tt
     by false false = tt
 
-number-answers : (w : List ℕ) → Answers (number_to 255 w)
+pub number-answers : (w : List ℕ) → Answers (number_to 255 w)
 unfolding number_to
 number-answers w = by (number_of 0 255 w)
   where

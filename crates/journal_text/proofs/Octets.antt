@@ -14,9 +14,10 @@ use Rattle.std.proofs.lemmas.Bool.{and_parts}
 use Rattle.hex.specs.Hex.{decode_of, decode_sized, encode_lower, encode_with, hex_digit_value, lower_digits}
 use Rattle.hex.proofs.HexLemmas.{decode_of-ok, decode_sized-ok, decode_sized-twice, length-encode_with}
 use Rattle.hex.proofs.HexLemmas.{decode_of-encode_lower, decode_sized-encode_lower}
-use Rattle.text_digits.specs.Pairs.{pairs, with_pair}
+use Rattle.text_digits.specs.Pairs.{with_pair, is_no_capital}
 use Rattle.text_digits.proofs.DecodeLaws.{Says, says-decoded}
-use Rattle.journal_text.specs.Fields.{is_no_capital, octets_of, array_of, bitmap_of}
+use Rattle.journal_text.specs.Fields.{octets_in, octets_of, array_of, bitmap_of}
+use Rattle.journal_text.specs.Answers.{none}
 use Rattle.journal_text.specs.Records.{AreOctets, IsArray}
 
 -- the digits of lower case
@@ -72,22 +73,42 @@ by_parts x y rest octets (Some h) (Some l) None e f a b again whole = cc
 by_parts x y rest octets (Some h) None q e f a b again whole = cc
 by_parts x y rest octets None p q e f a b again whole = cc
 
-pairs_again : (text octets : List ℕ) → list_all is_no_capital text ≡ true → pairs text ≡ Some octets
-    → encode_lower octets ≡ text
+-- what pairs of digits say, as decoding does
+pub record IsPairs (pairs : List ℕ → Option (List ℕ)) : Type 0 where
+  pub says : (text : List ℕ) → Says (decode_of text) (pairs text)
+  pub nothing : pairs [] ≡ Some []
+  pub single : (x : ℕ) → pairs (x ∷ []) ≡ None
+  pub pair : (x y : ℕ) (rest : List ℕ)
+      → pairs (x ∷ y ∷ rest) ≡ with_pair (hex_digit_value x) (hex_digit_value y) (pairs rest)
+
+pub as_pairs : (pairs : List ℕ → Option (List ℕ)) × IsPairs pairs
+as_pairs = (
+  _,
+  record {
+    says = says-decoded;
+    nothing = refl;
+    single = λ x. refl;
+    pair = λ x y rest. refl;
+  },
+)
+
+pairs_again : (pairs : List ℕ → Option (List ℕ)) → IsPairs pairs → (text octets : List ℕ)
+    → list_all is_no_capital text ≡ true → pairs text ≡ Some octets → encode_lower octets ≡ text
 unfolding encode_with
-pairs_again [] octets low h = let e : [] ≡ octets = cc in rw (← e) refl
-pairs_again (x ∷ []) octets low h = cc
-pairs_again (x ∷ y ∷ rest) octets low h =
+pairs_again pairs p [] octets low h = let e : Some [] ≡ Some octets = sym p.nothing ∙ h in
+    let same : [] ≡ octets = cc in rw (← same) refl
+pairs_again pairs p (x ∷ []) octets low h = let e : None ≡ Some octets = sym (p.single x) ∙ h in cc
+pairs_again pairs p (x ∷ y ∷ rest) octets low h =
     let first = and_parts (is_no_capital x) (list_all is_no_capital (y ∷ rest)) low in
     let second = and_parts (is_no_capital y) (list_all is_no_capital rest) first.1 in
     by_parts x y rest octets (hex_digit_value x) (hex_digit_value y) (pairs rest) refl refl first.0 second.0
-    (λ more e. pairs_again rest more second.1 e) h
+    (λ more e. pairs_again pairs p rest more second.1 e) (sym (p.pair x y rest) ∙ h)
 
 decoded_again : (text octets : List ℕ) → list_all is_no_capital text ≡ true → decode_of text ≡ Ok octets
     → encode_lower octets ≡ text
 decoded_again text octets low h =
-    pairs_again text octets low
-    (subst (λ (d : Result (List ℕ) FromHexError). Says d (pairs text)) h (says-decoded text))
+    pairs_again as_pairs.0 as_pairs.1 text octets low
+    (subst (λ (d : Result (List ℕ) FromHexError). Says d (as_pairs.0 text)) h (as_pairs.1.says text))
 
 -- what was read is what a text decodes to
 read_hex : (d : Result (List ℕ) FromHexError) (good : Bool) (out : List ℕ)
@@ -100,13 +121,46 @@ read_slice : (d : Result (List ℕ) FromHexError) (r : Result Unit FromHexError)
 read_slice (Ok read) r out says is = ap Ok (sym says.1)
 read_slice (Err e) r out says is = cc
 
-pub octets_exact : (text octets : List ℕ) (good : Bool) → list_all is_no_capital text ≡ true → 0 < length text
-    → MatchResult (decode_of text) (λ read. (good ≡ true) × (octets ≡ read)) (λ _. good ≡ false) → good ≡ true
+-- what reading digits of lower case answered, and left
+abbrev pub ReadsLower : List ℕ → Bool → List ℕ → Type 0
+ReadsLower text good octets = (list_all is_no_capital text ≡ true
+    → MatchResult (decode_of text) (λ read. (good ≡ true) × (octets ≡ read)) (λ _. good ≡ false))
+    × (list_all is_no_capital text ≡ false → good ≡ false)
+
+lower-read : (low : Bool) (d : Result (List ℕ) FromHexError) (good : Bool) (octets : List ℕ)
+    → (low ≡ true → MatchResult d (λ read. (good ≡ true) × (octets ≡ read)) (λ _. good ≡ false))
+    → (low ≡ false → good ≡ false) → good ≡ true → (low ≡ true) × (d ≡ Ok octets)
+lower-read true d good octets says capital is = (refl, read_hex d good octets (says refl) is)
+lower-read false d good octets says capital is = let none = capital refl in cc
+
+lower-none : (low : Bool) (d : Result (List ℕ) FromHexError) (good : Bool) (octets : List ℕ)
+    → (low ≡ true → MatchResult d (λ read. (good ≡ true) × (octets ≡ read)) (λ _. good ≡ false))
+    → good ≡ false → (if low then octets_in d else none) ≡ none
+lower-none true (Ok read) good octets says is = let both = says refl in let yes = both.0 in cc
+lower-none true (Err e) good octets says is = refl
+lower-none false d good octets says is = refl
+
+pub octets_told : (text octets : List ℕ) (good : Bool) → 0 < length text → ReadsLower text good octets → good ≡ true
+    → octets_of text ≡ Ok octets
+unfolding octets_of
+octets_told text octets good some reads is =
+    let read = lower-read (list_all is_no_capital text) (decode_of text) good octets reads.0 reads.1 is in
+    let long : (length text == 0) ≡ false = grind (arith, some) in
+    rw (long, read.0, read.1) refl
+
+pub octets_refused : (text octets : List ℕ) (good : Bool) → 0 < length text → ReadsLower text good octets
+    → good ≡ false → octets_of text ≡ none
+unfolding octets_of
+octets_refused text octets good some reads is =
+    let long : (length text == 0) ≡ false = grind (arith, some) in
+    rw long (lower-none (list_all is_no_capital text) (decode_of text) good octets reads.0 is)
+
+pub octets_exact : (text octets : List ℕ) (good : Bool) → 0 < length text → ReadsLower text good octets → good ≡ true
     → (encode_lower octets ≡ text) × AreOctets octets
-octets_exact text octets good low some says is =
-    let h = read_hex (decode_of text) good octets says is in
-    let read = decode_of-ok text octets h in
-    (decoded_again text octets low h, (read.3, omega (arith, read.2, some)))
+octets_exact text octets good some reads is =
+    let low = lower-read (list_all is_no_capital text) (decode_of text) good octets reads.0 reads.1 is in
+    let read = decode_of-ok text octets low.1 in
+    (decoded_again text octets low.0 low.1, (read.3, omega (arith, read.2, some)))
 
 pub array_exact : (n m : ℕ) (text octets : List ℕ) (r : Result Unit FromHexError) → m ≡ n
     → list_all is_no_capital text ≡ true

@@ -41,9 +41,9 @@ worded-text (Line number line) =
     ap (λ (r : List ℕ). codes "line" ++ (32 ∷ r)) (ended-worded (decimal number) (line_words line) (some-words line))
 worded-text one = refl
 
-one-said : (text : List ℕ) (words : List (List ℕ)) (one : Record) → words ≡ pieces 32 text → IsSaid words one
+one-said : (text : List ℕ) (words : List (List ℕ)) (one : Record) → worded words ≡ text ++ 10 ∷ [] → IsSaid words one
     → HasText text one
-one-said text words one e said = (said.0, worded-text one ∙ ap worded (said.1 ∙ e) ∙ words_again text)
+one-said text words one whole said = (said.0, worded-text one ∙ ap worded said.1 ∙ whole)
 
 -- ---- a text and its line feed
 
@@ -186,9 +186,9 @@ none_of (Err NotARecord) text gives = λ e one h. let read = sym (complete text 
 
 -- ---- a record's words
 
-pub said_text : (result : Result Record TextFault) (text : List ℕ) (words : List (List ℕ)) → words ≡ pieces 32 text
-    → IfOk result (IsSaid words) → IfOk result (HasText text)
-said_text (Ok one) text words e said = one-said text words one e said
+pub said_text : (result : Result Record TextFault) (text : List ℕ) (words : List (List ℕ))
+    → worded words ≡ text ++ 10 ∷ [] → IfOk result (IsSaid words) → IfOk result (HasText text)
+said_text (Ok one) text words whole said = one-said text words one whole said
 said_text (Err e) text words is said = tt
 
 pub words_read : (result : Result Record TextFault) (text : List ℕ) (words : List (List ℕ))

@@ -1,10 +1,11 @@
 -- The numbers and octets of a record's text (docs/formats/JOURNAL.md).
-use Rattle.std.specs.Prelude.{ℕ, ◌^◌, ◌||◌, nat_lt, Bool, if◌then◌else◌, List}
+use Rattle.std.specs.Prelude.{ℕ, ◌^◌, nat_lt, if◌then◌else◌, List}
 use Rattle.std.specs.Prelude.{[], length, codes, ◌==◌, Option, None, Some}
 use Rattle.std.specs.Prelude.{Result, Ok, Err}
 use Rattle.std.specs.List.{list_all}
 use Rattle.std.specs.Str.{bytes_eq}
 use Rattle.text_digits.specs.Numerals.{value_behind}
+use Rattle.text_digits.specs.Pairs.{is_no_capital}
 use Rattle.hex.specs.Hex.{decode_of, decode_sized}
 use Rattle.hex.specs.declared.error.FromHexError.{FromHexError}
 use Rattle.air_text.specs.declared.fault.LineRefusal.{LineRefusal}
@@ -32,10 +33,6 @@ unfoldable pub count_of : List ℕ → Result (Option ℕ) TextFault
 count_of text = if bytes_eq text (codes "-") then Ok None else do
   n ← number_to 4294967295 text
   Ok (Some n)
-
--- no hexadecimal digit of upper case
-abbrev pub is_no_capital : ℕ → Bool
-is_no_capital x = nat_lt x 65 || nat_lt 70 x
 
 abbrev pub octets_in : Result (List ℕ) FromHexError → Result (List ℕ) TextFault
 octets_in (Ok octets) = Ok octets

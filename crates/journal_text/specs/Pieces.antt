@@ -1,5 +1,6 @@
 -- A text in pieces, between octets of one kind (docs/formats/JOURNAL.md).
-use Rattle.std.specs.Prelude.{ℕ, ◌==◌, if◌then◌else◌, List, [], ◌∷◌, ◌++◌, Option, None, Some}
+use Rattle.std.specs.Prelude.{ℕ, zero, suc, ◌==◌, if◌then◌else◌, List, [], ◌∷◌, ◌++◌, Option, None}
+use Rattle.std.specs.Prelude.{Some}
 use Rattle.std.specs.Borrow.{Bor}
 
 -- the octets before the first of a kind
@@ -25,6 +26,12 @@ pieces at (x ∷ xs) = if x == at then [] ∷ pieces at xs else onto_first x (pi
 abbrev pub left : ℕ → Option (List ℕ) → List (List ℕ)
 left at None = []
 left at (Some text) = pieces at text
+
+-- the first pieces of what is left, so many at most, and the rest of it as one more
+abbrev pub parts : ℕ → ℕ → Option (List ℕ) → List (List ℕ)
+parts at n None = []
+parts at zero (Some text) = text ∷ []
+parts at (suc n) (Some text) = before at text ∷ parts at n (behind at text)
 
 -- the text that a slice holds, if there is one
 abbrev pub text_in : Option (Bor (List ℕ)) → Option (List ℕ)

@@ -57,6 +57,14 @@ unfoldable pub words_of : List (List ℕ) → Result Record TextFault
 words_of [] = none
 words_of (first ∷ fields) = record_of first fields
 
+-- How many words behind the first are searched for the space that ends them: octets stand last in
+-- their records, and no space may stand among them. No record has more than eight words.
+abbrev pub searched : List ℕ → ℕ
+searched first =
+    if bytes_eq first (codes "up") then 2
+    else if bytes_eq first (codes "block") then 4
+    else 8
+
 unfoldable pub read_text : List ℕ → Result Record TextFault
 read_text text = if bytes_eq (before 32 text) (codes "line") then line_of text (behind 32 text)
     else words_of (pieces 32 text)

@@ -5,11 +5,12 @@ ghost use Rattle.std.specs.Str.{bytes_eq};
 ghost use Rattle.std.specs.Fmt.{decimal};
 ghost use Rattle.hex.specs.Hex.{encode_lower, IsBytes};
 ghost use Rattle.text_digits.specs.Numerals.{is_digit, value_behind};
+ghost use Rattle.text_digits.specs.Pairs.{is_no_capital};
 ghost use Rattle.air_record.specs.Text.{count_text, bitmap_text};
 ghost use Rattle.air_text.specs.Fields.{is_number};
 ghost use Rattle.journal_text.specs.Answers.{Gives};
 ghost use Rattle.journal_text.specs.Fields.{number_to, long_of, count_of, octets_of, array_of};
-ghost use Rattle.journal_text.specs.Fields.{bitmap_of, is_no_capital};
+ghost use Rattle.journal_text.specs.Fields.{bitmap_of};
 ghost use Rattle.journal_text.specs.Records.{IsCount, AreOctets, IsArray};
 
 use crate::fault::TextFault;
@@ -17,7 +18,7 @@ use air_text::LineRefusal;
 use hex::decode_to_slice;
 use l2_bits::Bytes;
 use std::alloc::Global;
-use text_digits::read_hex;
+use text_digits::read_lower_hex;
 
 /// Whether a text is a word.
 #[inline(always)]
@@ -106,17 +107,6 @@ pub fn count(text: &[u8]) -> Result<Option<u32>, TextFault>
     Ok(Some(number))
 }
 
-// All of the text is looked at, since a loop that may end early takes one octet at a time.
-fn has_no_capital(text: &[u8]) -> bool
-    ensures { result ≡ list_all is_no_capital text.now }
-{
-    let mut none = true;
-    for x in text {
-        none = none & (*x < b'A' || b'F' < *x);
-    }
-    none
-}
-
 /// Octets in hexadecimal digits of lower case, one at least.
 #[tactic(auto, unfolding(crate::specs::Fields::octets_of))]
 pub fn octets(alloc: Global, text: &[u8]) -> Result<Bytes, TextFault>
@@ -126,14 +116,22 @@ pub fn octets(alloc: Global, text: &[u8]) -> Result<Bytes, TextFault>
     if text.is_empty() {
         return Err(TextFault::NotARecord);
     }
-    if !has_no_capital(text) {
-        return Err(TextFault::NotARecord);
-    }
     let mut octets = Bytes::with_capacity(alloc, text.len() / 2)?;
-    if !read_hex(text, &mut octets)? {
+    if !read_lower_hex(text, &mut octets)? {
         return Err(TextFault::NotARecord);
     }
     Ok(octets)
+}
+
+// All of the text is looked at, since a loop that may end early takes one octet at a time.
+fn has_no_capital(text: &[u8]) -> bool
+    ensures { result ≡ list_all is_no_capital text.now }
+{
+    let mut none = true;
+    for x in text {
+        none = none & (*x < b'A' || b'F' < *x);
+    }
+    none
 }
 
 /// As many octets as an array has.

@@ -1,6 +1,6 @@
 ghost use Rattle.std.specs.Prelude.{◌≡◌, ◌∷◌, ◌<◌, length, IfSome, IfNone};
 ghost use Rattle.air_text.specs.Words.{texts};
-ghost use Rattle.journal_text.specs.Pieces.{before, behind, pieces, left, glued, text_in};
+ghost use Rattle.journal_text.specs.Pieces.{before, behind, pieces, left, parts, glued, text_in};
 
 use arrayvec::ArrayVec;
 use memchr::memchr;
@@ -23,14 +23,16 @@ pub fn split(text: &[u8], at: u8) -> (&[u8], Option<&[u8]>)
 }
 
 /// The words between two spaces, if there are at most eight: the first one, and those of what
-/// stands behind it.
+/// stands behind it. So many of these are searched for a space, and what is left is one word.
 pub fn words<'a>(
     first: &'a [u8],
     others: Option<&'a [u8]>,
+    searched: usize,
 ) -> Option<ArrayVec<&'a [u8], MOST_WORDS>>
     ensures all { IfSome result
-        (λ words. texts words.items ≡ first.now ∷ left 32 (text_in others.entry)) }
-    ensures more { IfNone result (8 < length (first.now ∷ left 32 (text_in others.entry))) }
+        (λ words. texts words.items ≡ first.now ∷ parts 32 searched (text_in others.entry)) }
+    ensures more { IfNone result
+        (8 < length (first.now ∷ parts 32 searched (text_in others.entry))) }
 {
     let mut words: ArrayVec<&'a [u8], MOST_WORDS> = ArrayVec::new();
     words.push(first);
@@ -39,7 +41,11 @@ pub fn words<'a>(
         if words.is_full() {
             return None;
         }
-        let (word, behind) = split(text, b' ');
+        let (word, behind) = if words.len() > searched {
+            (text, None)
+        } else {
+            split(text, b' ')
+        };
         words.push(word);
         rest = behind;
     }

@@ -7,7 +7,7 @@ ghost use Rattle.air_text.specs.Words.{texts};
 ghost use Rattle.journal_text.specs.Answers.{Gives};
 ghost use Rattle.journal_text.specs.Pieces.{text_in, glued};
 ghost use Rattle.journal_text.specs.Reading.{line_in, if_own, script_of, line_of, record_of};
-ghost use Rattle.journal_text.specs.Reading.{words_of};
+ghost use Rattle.journal_text.specs.Reading.{words_of, searched};
 ghost use Rattle.journal_text.specs.Records.{HasText, IsSaid};
 
 use crate::blocks::{air, block, drained, looped, refused, sleep, sum, tti};
@@ -145,6 +145,18 @@ fn record(alloc: Global, words: &[&[u8]]) -> Result<Record, TextFault>
     named(alloc, first, fields)
 }
 
+fn searched(first: &[u8]) -> usize
+    ensures { result ≡ searched first.now }
+{
+    if says(first, b"up") {
+        return 2;
+    }
+    if says(first, b"block") {
+        return 4;
+    }
+    8
+}
+
 /// The record of a journal that has a text, which is a line without its line feed.
 ///
 /// `NotARecord` exactly where no record of a journal is printed as the text and a line feed.
@@ -158,7 +170,7 @@ pub fn read_text(alloc: Global, text: &[u8]) -> Result<Record, TextFault>
     if says(first, b"line") {
         return line(alloc, text, rest);
     }
-    let Some(words) = words(first, rest) else {
+    let Some(words) = words(first, rest, searched(first)) else {
         return Err(TextFault::NotARecord);
     };
     record(alloc, words.as_slice())

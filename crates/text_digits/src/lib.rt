@@ -8,4 +8,4 @@ mod reading;
 
 pub use hexadecimal::append_hex;
 pub use number::append_number;
-pub use reading::read_hex;
+pub use reading::{read_hex, read_lower_hex};

@@ -1,6 +1,6 @@
 use Rattle.std.proofs.Common.{◌≡◌, ◌&&◌, drop}
 use Rattle.std.specs.List.{list_all}
-use Rattle.journal_text.specs.Fields.{is_no_capital}
+use Rattle.text_digits.specs.Pairs.{is_no_capital}
 use Rattle.journal_text.proofs.fields.has_no_capital.Given as goal
 
 abbrev pub invariant-loop-x : goal.invariant-loop-x
