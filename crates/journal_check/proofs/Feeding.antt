@@ -33,7 +33,7 @@ use Rattle.journal_check.specs.Grouped.{GroupedRecords, no_records, record_count
 use Rattle.journal_check.specs.Grouped.{has_any, record_fault}
 use Rattle.journal_check.specs.Judging.{Judging, nothing_judged, judging_line, judging_record}
 use Rattle.journal_check.specs.Judging.{judging_end, all_judging, word_of}
-use Rattle.journal_check.specs.LineRules.{has_bearer}
+use Rattle.promises.specs.LineRules.{has_bearer}
 use Rattle.journal_check.specs.Soundness.{may_take, Holds, group_words, AllHold, sum_fault_by}
 use Rattle.journal_check.specs.Soundness.{sum_fault}
 use Rattle.journal_check.specs.States.{OrderState, is_running, is_set}

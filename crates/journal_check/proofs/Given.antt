@@ -9,7 +9,7 @@ use Rattle.std.specs.List.{list_any}
 use Rattle.std.specs.Ordering.{nat_cmp, is_eq, match_ordering}
 use Rattle.std.specs.Str.{bytes_eq}
 use Rattle.eps_sec.specs.declared.Key.{Key}
-use Rattle.journal_check.specs.LineRules.{are_new}
+use Rattle.promises.specs.LineRules.{are_new}
 use Rattle.journal_check.specs.States.{is_given, with_key, with_keys, are_ungiven}
 
 or-again : (a b : Bool) → (a || b) ≡ (a || (a || b))

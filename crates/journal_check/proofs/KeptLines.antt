@@ -22,8 +22,8 @@ use Rattle.promises.specs.Sleeps.{sets_drx}
 use Rattle.test_loop.specs.declared.Mode.{Mode}
 use Rattle.test_loop.specs.Loops.{is_on}
 use Rattle.journal_check.specs.Checks.{TellsLines}
-use Rattle.journal_check.specs.LineRules.{is_configuring, is_harq, is_bsr, is_keys}
-use Rattle.journal_check.specs.LineRules.{keeps_rules}
+use Rattle.promises.specs.LineRules.{is_configuring, is_harq, is_bsr, is_keys}
+use Rattle.promises.specs.LineRules.{keeps_rules}
 use Rattle.journal_check.specs.States.{LinesState, no_lines, is_set, is_given, admits, behind_line, HasPlace}
 use Rattle.journal_check.proofs.Given.{keys_given, ungiven_new}
 

@@ -10,7 +10,7 @@ use Rattle.promises.specs.Configs.{config_by, config_of}
 use Rattle.journal_flows.specs.Laws.{bearer_by, bearer_on}
 use Rattle.journal_form.specs.Lines.{HasLayout}
 use Rattle.journal_queues.specs.QueueLaws as queues
-use Rattle.journal_check.specs.LineRules.{is_early, is_tm, has_line, has_bearer, is_keys, keeps_rules}
+use Rattle.promises.specs.LineRules.{is_early, is_tm, has_line, has_bearer, is_keys, keeps_rules}
 use Rattle.journal_check.specs.Checked.{AreRuled}
 
 none_before : (o : Option BearerConfig) → not (is_some o) ≡ true → o ≡ None

@@ -13,7 +13,7 @@ use Rattle.journal_check.specs.declared.limits.TheConstants.{MOST_RECORDS}
 use Rattle.journal_check.specs.Checks.{IsTextOf, HasNoRecord, TellsRecords}
 use Rattle.journal_check.specs.Grouped.{GroupedRecords, record_count, with_record, has_any}
 use Rattle.journal_check.specs.Grouped.{record_fault}
-use Rattle.journal_check.specs.LineRules.{keeps_rules}
+use Rattle.promises.specs.LineRules.{keeps_rules}
 use Rattle.journal_check.specs.Judging.{Judging, nothing_judged, judging_within, all_judging}
 use Rattle.journal_check.specs.Soundness.{AllHold, FailsFirst, sum_fault}
 use Rattle.journal_check.specs.States.{OrderState}

@@ -18,7 +18,7 @@ use Rattle.journal_check.specs.declared.fault.CheckWhy.TheVariants.{Text, Record
 use Rattle.journal_check.specs.declared.limits.TheConstants.{LONGEST_RECORD, MOST_RECORDS}
 use Rattle.journal_check.specs.Grouped.{GroupedRecords, record_count, with_record, has_any}
 use Rattle.journal_check.specs.Grouped.{record_fault}
-use Rattle.journal_check.specs.LineRules.{is_early, is_harq, is_bsr, is_keys, has_line, has_bearer}
+use Rattle.promises.specs.LineRules.{is_early, is_harq, is_bsr, is_keys, has_line, has_bearer}
 use Rattle.journal_text.specs.Records.{HasText}
 use Rattle.journal_check.specs.States.{LinesState, OrderState, is_set, is_given, is_above}
 

@@ -10,7 +10,7 @@ use Rattle.air_text.specs.Groups.{Group, history}
 use Rattle.promises.specs.Delivery.{forges}
 use Rattle.journal_check.specs.declared.fault.CheckWhy.{CheckWhy}
 use Rattle.journal_check.specs.declared.fault.CheckWhy.TheVariants.{Forged, Order, Rules}
-use Rattle.journal_check.specs.LineRules.{keeps_rules}
+use Rattle.promises.specs.LineRules.{keeps_rules}
 
 -- groups, of which the newest stands first, and behind them the sums
 pub record GroupedRecords : Type 0 where

@@ -1,4 +1,3 @@
-pub mod LineRules
 pub mod Grouped
 pub mod States
 pub mod Checks

@@ -17,7 +17,7 @@ use Rattle.eps_sec.specs.declared.Key.{Key}
 use Rattle.promises.specs.Delivery.{forges}
 use Rattle.journal_check.specs.declared.fault.CheckWhy.{CheckWhy}
 use Rattle.journal_check.specs.declared.fault.CheckWhy.TheVariants.{Forged, Order, Rules}
-use Rattle.journal_check.specs.LineRules.{is_tm, is_fitting}
+use Rattle.promises.specs.LineRules.{is_tm, is_fitting}
 
 -- ---- lines
 

@@ -1,6 +1,6 @@
 ghost use Rattle.std.specs.Prelude.{◌≡◌, OnOk, false};
 ghost use Rattle.promises.specs.Delivery.{forges};
-ghost use Rattle.journal_check.specs.LineRules.{is_tm, is_fitting};
+ghost use Rattle.promises.specs.LineRules.{is_tm, is_fitting};
 ghost use Rattle.journal_check.specs.States.{no_lines, is_set, is_given, with_key, with_keys};
 ghost use Rattle.journal_check.specs.States.{are_equal, are_ungiven, admits, behind_line, HasPlace};
 

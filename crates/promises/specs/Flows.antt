@@ -1,6 +1,6 @@
 -- The SDUs of a flow as the journal tells them (docs/formats/JOURNAL.md): those submitted and those
 -- delivered, in order.
-use Rattle.std.specs.Prelude.{ℕ, List, map, Bool, true, false, ◌==◌, not, ◌&&◌, if◌then◌else◌, []}
+use Rattle.std.specs.Prelude.{ℕ, List, map, Bool, false, ◌==◌, not, ◌&&◌, if◌then◌else◌, []}
 use Rattle.std.specs.Prelude.{◌∷◌, ◌++◌}
 use Rattle.std.specs.List.{filter}
 use Rattle.air_record.specs.Submissions.{refuses}

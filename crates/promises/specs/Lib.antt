@@ -20,6 +20,7 @@ pub mod Blocks
 pub mod Order
 pub mod Telling
 pub mod Delivery
+pub mod LineRules
 pub mod Drained
 pub mod Silent
 pub mod Signalling

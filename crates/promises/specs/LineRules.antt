@@ -2,7 +2,7 @@
 -- those of a run, but that a timer runs. Before a line stand groups, of which the newest stands
 -- first.
 use Rattle.std.specs.Prelude.{ℕ, Bool, true, false, not, ◌||◌, ◌&&◌, nat_lt, nat_le, is_some}
-use Rattle.std.specs.Prelude.{List, [], ◌∷◌, ◌++◌}
+use Rattle.std.specs.Prelude.{List, [], ◌∷◌, ◌++◌, IsTrue}
 use Rattle.std.specs.List.{list_all, list_any}
 use Rattle.std.specs.Str.{bytes_eq}
 use Rattle.air_record.specs.declared.line.Line.{Line}
@@ -89,3 +89,8 @@ keeps_rules past (lines.Handover user rrc integrity) =
 keeps_rules past (lines.Drain grant) =
     nat_le 200 grant && (not (is_on (mode_in_force past)) && not (is_forged past))
 keeps_rules past line = true
+
+-- each line keeps them
+abbrev pub LinesKeepRules : List Group → Type 0
+LinesKeepRules [] = Unit {0}
+LinesKeepRules (now ∷ past) = IsTrue (keeps_rules past now.line) × LinesKeepRules past
