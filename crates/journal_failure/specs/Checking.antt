@@ -1,7 +1,7 @@
 -- What is kept of a journal while its `fail` records are checked, and how each line and record
 -- changes it. Nothing of it grows with the journal.
 use Rattle.std.specs.Prelude.{ℕ, ◌+◌, ◌%◌, ◌==◌, nat_le, Bool, true, false, not, ◌&&◌, ◌||◌}
-use Rattle.std.specs.Prelude.{if◌then◌else◌, List, [], ◌∷◌, Option, Some, None, is_some}
+use Rattle.std.specs.Prelude.{if◌then◌else◌, List, [], ◌∷◌, Option, Some, None, is_some, is_none}
 use Rattle.std.specs.Prelude.{replicate, slice_index_or, slice_set}
 use Rattle.l2_types.specs.declared.side.Side.{Side}
 use Rattle.l2_types.specs.declared.side.Side.TheVariants.{Nb, Ue}
@@ -95,6 +95,11 @@ same_sn a b = false
 abbrev pub is_sender_right : Option ℕ → Sender → Bool
 is_sender_right limit s =
     not s.twice && same_sn s.told (sn_due s.failed limit) && not (s.known && s.spoke)
+
+-- it has told nothing that a group's end looks at
+abbrev pub is_at_rest : Sender → Bool
+is_at_rest s = not s.failed && (is_none s.told && (not s.twice && (not s.gave_up
+    && (not s.spoke && not s.begins))))
 
 -- ---- those of a side, by channel
 

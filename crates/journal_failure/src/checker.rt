@@ -99,11 +99,9 @@ impl FailureChecker {
     pub fn end_line(&mut self, flows: &JournalFlows)
         ensures { self.new ≡ after_group flows.now self.old }
     {
-        self.right = self.right
-            && senders::are_right(&self.nb, Side::Nb, flows)
-            && senders::are_right(&self.ue, Side::Ue, flows);
-        senders::end(&mut self.nb, Side::Nb, self.hands_over, flows);
-        senders::end(&mut self.ue, Side::Ue, self.hands_over, flows);
+        let nb_right = senders::end(&mut self.nb, Side::Nb, self.hands_over, flows);
+        let ue_right = senders::end(&mut self.ue, Side::Ue, self.hands_over, flows);
+        self.right = self.right && nb_right && ue_right;
         self.hands_over = false;
     }
 

@@ -2,6 +2,7 @@
 ghost use Rattle.std.specs.Prelude.{◌≡◌};
 ghost use Rattle.journal_failure.specs.Checking.{nothing_told, with_fail, with_data, with_bearer};
 ghost use Rattle.journal_failure.specs.Checking.{with_end, sn_due, same_sn, is_sender_right};
+ghost use Rattle.journal_failure.specs.Checking.{is_at_rest};
 
 use rlc_pdu::AM_MODULUS;
 
@@ -105,6 +106,18 @@ impl Sender {
             known: self.known || self.begins,
             begins: false,
         }
+    }
+
+    // Whether it has told nothing that a group's end looks at.
+    pub(crate) fn is_at_rest(self) -> bool
+        ensures { result ≡ is_at_rest self }
+    {
+        !self.failed
+            && self.told.is_none()
+            && !self.twice
+            && !self.gave_up
+            && !self.spoke
+            && !self.begins
     }
 
     // Whether the group told the SN that it had to, and nothing behind a failure.

@@ -63,30 +63,23 @@ fn limit(flows: &JournalFlows, side: Side, lcid: u8) -> Option<u64>
     }
 }
 
-// Whether the group is right on each channel.
+// The group ends: whether it is right on each channel.
 #[tactic(auto, using(crate::proofs::Channels::walks))]
-pub(crate) fn are_right(senders: &Senders, side: Side, flows: &JournalFlows) -> bool
-    ensures { result ≡ all_right (limit_at side flows.now) 0 senders.now.items }
+pub(crate) fn end(senders: &mut Senders, side: Side, hands_over: bool, flows: &JournalFlows) -> bool
+    ensures right { result ≡ all_right (limit_at side flows.now) 0 senders.old.items }
+    ensures ended { senders.new.items
+        ≡ all_ended hands_over (limit_at side flows.now) 0 senders.old.items }
 {
+    let mut are_right = true;
     let mut at = 0;
     while at < senders.len() {
-        if !senders[at].is_right(limit(flows, side, at as u8)) {
-            return false;
+        let limit = limit(flows, side, at as u8);
+        let sender = senders[at];
+        if limit.is_some() || !sender.is_at_rest() {
+            are_right = are_right & sender.is_right(limit);
+            senders[at] = sender.with_end(hands_over, limit);
         }
         at += 1;
     }
-    true
-}
-
-// The group ends.
-#[tactic(auto, using(crate::proofs::Channels::walks))]
-pub(crate) fn end(senders: &mut Senders, side: Side, hands_over: bool, flows: &JournalFlows)
-    ensures { senders.new.items
-        ≡ all_ended hands_over (limit_at side flows.now) 0 senders.old.items }
-{
-    let mut at = 0;
-    while at < senders.len() {
-        senders[at] = senders[at].with_end(hands_over, limit(flows, side, at as u8));
-        at += 1;
-    }
+    are_right
 }
