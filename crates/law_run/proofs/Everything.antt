@@ -12,6 +12,7 @@ use Rattle.law_run.proofs.Drains.{drains_leave_nothing}
 use Rattle.law_run.proofs.FewVisits.{visits_are_few}
 use Rattle.law_run.proofs.Keys.{keys_behind}
 use Rattle.law_run.proofs.Losses.{delivers_while_short}
+use Rattle.law_run.proofs.LinesAscend.{lines_ascend}
 use Rattle.law_run.proofs.Looping.{return_in_order}
 use Rattle.law_run.proofs.OwnPdus.Groups.{pdus_are_own}
 use Rattle.law_run.proofs.Past.{behind, are_carried}
@@ -38,6 +39,7 @@ every-journal whole octets =
       past = t.later;
       journal_is = rw t.history_is t.journal_is;
       lines_are = t.lines_are;
+      ascend = lines_ascend whole octets (journal_of whole octets).close t.later t.lines_are;
       order = t.order;
       bearers = bearers_begin_first t.later t.order;
       in_turn = (behind t.later t.order).in_turn;

@@ -60,6 +60,7 @@ pub mod ShownAtOnce
 pub mod RightForm
 pub mod FewVisits
 pub mod BearersFirst
+pub mod LinesAscend
 pub mod CountsTold
 pub mod Everything
 pub mod DrainFlows

@@ -27,7 +27,7 @@ use Rattle.promises.specs.RightForm.{FormIsRight}
 use Rattle.promises.specs.SentNumbers.{NumbersAreSent}
 use Rattle.promises.specs.Sequence.{HandUpInSequence}
 use Rattle.promises.specs.Signalling.{DeliversEachLife, DrainsLeaveNoSignal, HandoversBringNoSignal}
-use Rattle.law_run.specs.Script.{lines_of, accepted_lines}
+use Rattle.law_run.specs.Script.{lines_of, accepted_lines, LinesAscend}
 use Rattle.promises.specs.Silent.{FailedAreSilent}
 use Rattle.law_run.specs.Sums.{sums_at}
 use Rattle.law_run.specs.Texts.{NoneMeet}
@@ -44,6 +44,8 @@ pub record IsPromised (whole : Bool) (octets : List ℕ) (played : RunPlayed) : 
   pub journal_is : played.journal ≡ history past ++ sums_at played.close past
   -- its lines are those of the script that are accepted, each with its number
   pub lines_are : lines_of past ≡ accepted_lines whole octets played.close
+  -- so the numbers of its lines grow, as a checker of any journal asks it
+  pub ascend : LinesAscend past
   pub order : KeepsOrder past
   -- each bearer's line stands before all records, and is the only one of its channel
   pub bearers : BearersBeginFirst past

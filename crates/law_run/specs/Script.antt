@@ -1,7 +1,7 @@
 -- The script of an input: its lines, each with its number (docs/formats/SCRIPT.md).
 use Rattle.std.specs.Prelude.{ℕ, ◌+◌, ◌==◌, nat_lt, Bool, true, false, if◌then◌else◌, List, [], ◌∷◌}
-use Rattle.std.specs.Prelude.{◌++◌, length, map, Option, None, Some, Result, Ok, Err}
-use Rattle.std.specs.List.{filter}
+use Rattle.std.specs.Prelude.{◌++◌, length, map, Option, None, Some, Result, Ok, Err, IsTrue}
+use Rattle.std.specs.List.{filter, list_all}
 use Rattle.l2_io.specs.Feeds.{without_return}
 use Rattle.air_record.specs.declared.line.Line.{Line}
 use Rattle.air_record.specs.declared.line.Line.TheVariants as lines
@@ -61,3 +61,9 @@ accepted_lines whole octets close = before close (to_end (said_from 1 (texts who
 abbrev pub lines_of : List Group → List NumberedLine
 lines_of [] = []
 lines_of (g ∷ past) = lines_of past ++ record { number = g.number; line = g.line } ∷ []
+
+-- their numbers grow, as a checker of journals asks it
+abbrev pub LinesAscend : List Group → Type 0
+LinesAscend [] = Unit {0}
+LinesAscend (now ∷ past) =
+    IsTrue (list_all (λ g. nat_lt g.number now.number) past) × LinesAscend past
