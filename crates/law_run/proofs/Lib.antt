@@ -35,6 +35,7 @@ pub mod Failing
 pub mod Failed
 pub mod Flowing
 pub mod Lives
+pub mod AnyAir
 pub mod Seen
 pub mod Delivering
 pub mod Arriving

@@ -1,5 +1,4 @@
 pub mod Sender
 pub mod Bearers
 pub mod Ends
-pub mod Lines
 pub mod Groups

@@ -1,7 +1,6 @@
 pub mod Counting
 pub mod Sender
 pub mod Ends
-pub mod Lines
 pub mod Calm
 pub mod Walking
 pub mod Ttis

@@ -43,7 +43,7 @@ use Rattle.law_deliver.proofs.AmFlow.Ups.{Stands, stands_more, the_end}
 use Rattle.law_deliver.proofs.AmFlow.Visiting.{carries_so}
 use Rattle.law_node.specs.Calls.{Turn, Call, SetVisits, SetReports, Add, Submit, SetDiscard, Tick, TickBuckets, Visits}
 use Rattle.law_node.specs.Calls.{Grants, Granted, Assigned, Pass, Receive, Expire, Move, IsGiven as IsGivenCall, after}
-use Rattle.law_node.specs.Calls.{reached}
+use Rattle.law_node.specs.Calls.{reached, run_end}
 use Rattle.law_node.specs.Holding.{flow}
 use Rattle.law_node.specs.Telling.{told_of}
 use Rattle.law_node.proofs.Keeping.{at_is, reached_are, share_most}
@@ -168,11 +168,17 @@ quiet_at side l fields e c g life q h =
     }
 
 -- a block comes, wherever from
-pub hears_at : (side : Side) (l : ℕ) (fields : List ℕ) (e : End) (block : List ℕ) → OwnsAt side l fields e
+hears_at : (side : Side) (l : ℕ) (fields : List ℕ) (e : End) (block : List ℕ) → OwnsAt side l fields e
     → OwnsAt side l fields (after e (Receive block))
 hears_at side l fields e block h =
     quiet_at side l fields e (Receive block) tt (record { adds_none = refl; moves_none = refl })
     (quiet_arrives (carried l (heard_by e.side) block)) h
+
+pub hears_all : (side : Side) (l : ℕ) (fields : List ℕ) (blocks : List (List ℕ)) (e : End) → OwnsAt side l fields e
+    → OwnsAt side l fields (run_end (map Receive blocks) e)
+hears_all side l fields [] e h = h
+hears_all side l fields (b ∷ bs) e h =
+    hears_all side l fields bs (after e (Receive b)) (hears_at side l fields e b h)
 
 -- what is known of its bearer
 well_at : (side : Side) (l : ℕ) (e : End) (b : State) → Stands side l e → flow l e ≡ Am b

@@ -2,7 +2,7 @@
 use Rattle.std.proofs.Common.{◌≡◌, ℕ, Bool, true, false, if◌then◌else◌, Some, List, [], ◌∷◌, ◌++◌, refl, ap}
 use Rattle.std.proofs.Common.{sym, subst, ◌∙◌}
 use Rattle.air_link.specs.Lines.{bears}
-use Rattle.air_link.specs.Link.{Link, end_of}
+use Rattle.air_link.specs.Link.{end_of}
 use Rattle.air_record.specs.declared.line.Line.{Line}
 use Rattle.air_record.specs.declared.line.Line.TheVariants as lines
 use Rattle.air_record.specs.declared.record.Record.{Record}
@@ -31,10 +31,10 @@ use Rattle.promises.specs.Configs.{config_by, config_of}
 use Rattle.promises.specs.OwnPdus.{AreOwn, PdusAreOwn}
 use Rattle.law_run.specs.Order.{state_behind, IsRight, KeepsOrder}
 use Rattle.law_run.specs.TwoEnds.On.{IsOn}
+use Rattle.law_run.proofs.AnyAir.{at_end, line_plays}
 use Rattle.law_run.proofs.Delivering.{is_first, at_each}
 use Rattle.law_run.proofs.Early.{is_early}
-use Rattle.law_run.proofs.OwnPdus.Ends.{OwnsAt, OwnTo, steps_to, own_then, account_then}
-use Rattle.law_run.proofs.OwnPdus.Lines.{line_flies}
+use Rattle.law_run.proofs.OwnPdus.Ends.{OwnsAt, OwnTo, hears_all, steps_to, own_then, account_then}
 use Rattle.law_run.proofs.OwnPdus.Sender.{start_owns}
 use Rattle.law_run.proofs.Past.{behind, link_behind}
 use Rattle.law_run.proofs.Texts.{adds_one, adds_it, unchanged}
@@ -49,7 +49,7 @@ record Owning (l bits : ℕ) (from : Side) (past : List Group) : Type 0 where
   own : AreOwn no_account (entries_from bits l from past)
   air : Air
   on : IsOn (link_behind past) air
-  at : OwnsAt from l (told bits l from past).rlc.fields (end_at from air)
+  at : OwnsAt from l (told bits l from past).rlc.fields (end_of from (link_behind past))
 
 -- ---- a line since
 
@@ -58,21 +58,27 @@ goes_on : (l bits : ℕ) (from : Side) (past : List Group) (g : Group) → IsRig
 goes_on l bits from past g right order other h =
     let k = link_behind past in
     let m = behind_line g.line (state_behind past) in
+    let n = link_behind (g ∷ past) in
     let first = entries_from bits l from past in
     let more = entries_ended g.line ++ entries_in bits l from [] g.events in
     let a = told bits l from past in
-    let x = line_flies l h.air g.line (state_behind past).rules.keys k (behind past order).nothing right.in_range other
+    let x = line_plays l h.air g.line (state_behind past).rules.keys k (behind past order).nothing right.in_range other
     h.on in
-    let e = end_at from (lives x.steps x.first) in
+    let air = lives x.steps x.first in
+    let on = same_on m n air refl refl refl x.on in
     let is = x.happened_is bits from
     ∙ ap (λ (out : List Record). entries_ended g.line ++ entries_in bits l from [] out) (sym right.events_are) in
-    let w : OwnTo from l a more e = subst (λ (hs : List AccountEntry). OwnTo from l a hs e) is
-    (steps_to from bits l x.steps x.first a x.living (x.keeps from a.rlc.fields h.at)) in
+    let heard = subst (OwnsAt from l a.rlc.fields) (sym (x.first_is from))
+    (hears_all from l a.rlc.fields (x.forged from) (end_of from k) h.at) in
+    let w : OwnTo from l a more (end_of from n) = subst (OwnTo from l a more) (at_end from n air on)
+    (subst (λ (hs : List AccountEntry). OwnTo from l a hs (end_at from air)) is
+    (steps_to from bits l x.steps x.first a x.living heard)) in
     record {
       own = own_then first more no_account h.own w.own;
-      air = lives x.steps x.first;
-      on = same_on m (link_behind (g ∷ past)) (lives x.steps x.first) refl refl refl x.on;
-      at = subst (λ (b : Account). OwnsAt from l b.rlc.fields e) (sym (account_then first more no_account)) w.at;
+      air = air;
+      on = on;
+      at = subst (λ (b : Account). OwnsAt from l b.rlc.fields (end_of from n))
+          (sym (account_then first more no_account)) w.at;
     }
 
 -- ---- the line in which its bearers come
@@ -86,10 +92,6 @@ fresh_at c keys side e kind h = record {
   bearer_is = h.bearer_is ∙ ap (λ (x : Kind). flow_of x c keys side) kind;
   owns = start_owns c.tx;
 }
-
-outset_at : (from : Side) (k : Link) → end_at from (outset k.nb k.ue) ≡ end_of from k
-outset_at Nb k = refl
-outset_at Ue k = refl
 
 begin_by : (bits : ℕ) (from : Side) (past : List Group) (g : Group) (c : BearerConfig) (options : _) → c.kind ≡ Am
     → IsRight past (record g { line = lines.Bearer c options }) → KeepsOrder past
@@ -114,10 +116,8 @@ begin_by bits from past g c options kind right order =
       own = subst (λ (hs : List AccountEntry). AreOwn no_account hs) none tt;
       air = outset there.nb there.ue;
       on = now.rest;
-      at =
-          subst (λ (e : End). OwnsAt from l (told bits l from all).rlc.fields e) (sym (outset_at from there))
-          (subst (λ (hs : List AccountEntry). OwnsAt from l (account hs no_account).rlc.fields (end_of from there)) none
-          (fresh_at c keys from (end_of from there) kind begun));
+      at = subst (λ (hs : List AccountEntry). OwnsAt from l (account hs no_account).rlc.fields (end_of from there)) none
+          (fresh_at c keys from (end_of from there) kind begun);
     }
 
 begins : (bits : ℕ) (from : Side) (past : List Group) (g : Group) (c : BearerConfig) (options : _)

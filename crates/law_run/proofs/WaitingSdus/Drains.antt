@@ -1,7 +1,6 @@
 -- In a drain, TTI by TTI, the SDUs that leave a queue wait.
 use Rattle.std.proofs.Common.{◌≡◌, ◌≤◌, ℕ, zero, suc, ◌+◌, Bool, true, false, List, [], ◌∷◌, ◌++◌, length, append-nil}
-use Rattle.std.proofs.Common.{refl}
-use Rattle.std.proofs.Common.{append_assoc, ap, sym, subst, ◌∙◌, arith}
+use Rattle.std.proofs.Common.{append_assoc, refl, ap, sym, subst, ◌∙◌, arith}
 use Rattle.std.proofs.lemmas.List.{append_cancel_left}
 use Rattle.air_link.specs.Draining.{drain_tti, carried, receivers_expire, is_drained}
 use Rattle.air_link.specs.Link.{Link, end_of}
@@ -11,14 +10,10 @@ use Rattle.air_run.specs.Draining.{shown, Drained, at_once, behind, ttis, sender
 use Rattle.air_run.specs.Draining.{round_told, rounds, budget, drained}
 use Rattle.l2_types.specs.declared.side.Side.{Side}
 use Rattle.l2_types.specs.declared.side.Side.TheVariants.{Nb, Ue}
-use Rattle.law_deliver.specs.AmChannel.Lives.{lives, all_calls}
+use Rattle.law_deliver.specs.AmChannel.Lives.{lives}
 use Rattle.law_deliver.specs.AmFlow.Air.{Air}
-use Rattle.law_deliver.proofs.AmChannel.Ends.{are_calls, goes_by_calls}
-use Rattle.law_node.specs.Calls.{run_end}
-use Rattle.law_node.specs.Telling.{told_over}
 use Rattle.pdcp_pdu.specs.declared.pdu.PdcpKind.{PdcpKind}
 use Rattle.pdcp_sec.specs.Protection.{Protection}
-use Rattle.law_deliver.specs.AmChannel.Delivery.{was_submitted}
 use Rattle.promises.specs.Flows.{looped_at}
 use Rattle.promises.specs.Order.{Channels}
 use Rattle.promises.specs.Records.{events_of}
@@ -28,6 +23,7 @@ use Rattle.law_run.specs.AnyCalls.Runs.{Step, Drains, Calls, step}
 use Rattle.law_run.specs.TwoEnds.Coming.{none_yet}
 use Rattle.law_run.specs.TwoEnds.Going.{IsStepSince, handed_in}
 use Rattle.law_run.specs.TwoEnds.On.{IsOn}
+use Rattle.law_run.proofs.AnyAir.{at_end, by_steps, standing}
 use Rattle.law_run.proofs.AnyCalls.Advancing.{call_goes_on, drain_goes}
 use Rattle.law_run.proofs.AnyCalls.Standing.{Ready, both_ready_on, call_tells}
 use Rattle.law_run.proofs.Standing.{shown_ready}
@@ -35,8 +31,6 @@ use Rattle.law_run.proofs.TwoEnds.Coming.{same_on, steps_come}
 use Rattle.law_run.proofs.WaitingSdus.Calm.{IsCalm, calm_receivers, calm_senders}
 use Rattle.law_run.proofs.WaitingSdus.Counting.{Counted, each_may, counted_quiet, counted_end, left_in, gone, after_is}
 use Rattle.law_run.proofs.WaitingSdus.Counting.{behind_records, as_queue}
-use Rattle.law_run.proofs.OwnPdus.Lines.{standing}
-use Rattle.law_run.proofs.WaitingSdus.Lines.{at_end}
 use Rattle.law_run.proofs.WaitingSdus.Ttis.{DrainParts, drain_parts}
 use Rattle.law_run.proofs.WaitingSdus.Walking.{Fits, Walks, walks, with_handed, fits_within, parts_counted, after_then}
 use Rattle.law_run.proofs.WaitingSdus.Walking.{each_then}
@@ -64,18 +58,13 @@ module _ (kind : PdcpKind) (p : Protection) (first bits l : ℕ) (side : Side) (
         let m = step s k in
         let x = steps_come l [] none_yet (λ n from. []) false s k a g (standing l a k on) in
         let same : x.more ≡ told = append_cancel_left k.out x.more told (sym x.out_is ∙ out_is) in
-        let cs = all_calls side x.by.steps a in
-        let begin = at_end side k a on in
         record {
           air = lives x.by.steps a;
           on = x.by.on;
-          walks = walks kind p first bits l side [] told q (end_of side k) (end_of side m) cs
-              (are_calls l side x.by.steps a x.by.living)
-              (sym (at_end side m (lives x.by.steps a) x.by.on) ∙ goes_by_calls side x.by.steps a
-              ∙ ap (run_end cs) begin)
-              (ap (events_of side) (sym same) ∙ (x.by.told_is side ∙ ap (told_over cs) begin))
-              (ap (was_submitted l cs) (sym begin)
-              ∙ (x.by.submitted_is side l
+          walks = walks kind p first bits l side [] told q (end_of side k) (end_of side m)
+              (by_steps l side [] told (end_of side k) m x.by.steps a (at_end side k a on) x.by.living x.by.on
+              (ap (events_of side) (sym same) ∙ x.by.told_is side)
+              (x.by.submitted_is side l
               ∙ (ap (λ (ys : List (List ℕ)). ys ++ looped_at side l x.more) none
               ∙ ap (looped_at side l) same)))
               h;

@@ -28,6 +28,7 @@ use Rattle.law_bearer.proofs.AmBearer.Lives.{first_life_begins}
 use Rattle.law_bearer.proofs.AnyBearer.Between.{IsBetween}
 use Rattle.law_bearer.proofs.AnyBearer.Streams.{am_begins, begun_tx}
 use Rattle.law_deliver.specs.AmChannel.Delivery.{HasBegun}
+use Rattle.law_deliver.specs.AmChannel.Lives.{lives}
 use Rattle.law_deliver.specs.AmFlow.Air.{Air, outset}
 use Rattle.law_deliver.proofs.AmChannel.Bearers.{IsSteady}
 use Rattle.law_deliver.proofs.AmChannel.Delivery.{first_of, stands_so}
@@ -52,6 +53,7 @@ use Rattle.promises.specs.Telling.{LineTells, channels}
 use Rattle.promises.specs.WaitingSdus.{Queue, after_records, EachMayLeave, with_line, queue, SdusWait}
 use Rattle.law_run.specs.Order.{state_behind, IsRight, KeepsOrder}
 use Rattle.law_run.specs.TwoEnds.On.{IsOn}
+use Rattle.law_run.proofs.AnyAir.{line_plays}
 use Rattle.law_run.proofs.AnyCalls.Going.{told_both}
 use Rattle.law_run.proofs.AnyCalls.Standing.{Ready}
 use Rattle.law_run.proofs.Delivering.{is_first, at_each}
@@ -67,7 +69,6 @@ use Rattle.law_run.proofs.WaitingSdus.Counting.{next_behind, gone_both, InTurn, 
 use Rattle.law_run.proofs.WaitingSdus.Counting.{queue_of}
 use Rattle.law_run.proofs.WaitingSdus.Drains.{same_end, none_handed, drain_leaves}
 use Rattle.law_run.proofs.WaitingSdus.Ends.{QueuedAt, goes_on as end_goes_on}
-use Rattle.law_run.proofs.WaitingSdus.Lines.{line_flies}
 use Rattle.law_run.proofs.WaitingSdus.Ttis.{TtiParts, tti_parts}
 use Rattle.law_run.proofs.WaitingSdus.Walking.{Fits, Walks, walks, with_handed, fits_within, fits_as, parts_counted}
 use Rattle.law_run.proofs.Zero.{have_come}
@@ -168,11 +169,10 @@ goes_on first bits l from past g right order other h =
     let part = part_of_line g.line in
     let q = queue from l past in
     let nothing = (behind past order).nothing in
-    let x = line_flies l h.air g.line keys k nothing right.in_range other h.on in
-    let y = x.by from in
+    let x = line_plays l h.air g.line keys k nothing right.in_range other h.on in
     let handed = handed_in from l part m.out in
-    let w = walks h.kind h.guard first bits l from handed m.out q (end_of from k) (end_of from m) y.calls y.are y.end_is
-    y.told_is y.submitted_is h.fits in
+    let w = walks h.kind h.guard first bits l from handed m.out q (end_of from k) (end_of from m) (x.comes from) h.fits
+    in
     let tells = subst (LineTells (ttis past) (kinds past) (λ side. channels past) g.line) right.events_are
     (lines_tell (g ∷ past) (right, order)).0 in
     let each = each_line h.kind h.guard first bits l from (λ side. channels past) refl (passes l g.line) (ttis past)
@@ -183,8 +183,8 @@ goes_on first bits l from past g right order other h =
       waiting = record {
         kind = h.kind;
         guard = h.guard;
-        air = x.air;
-        on = same_on m (link_behind (g ∷ past)) x.air refl refl refl x.on;
+        air = lives x.steps x.first;
+        on = same_on m (link_behind (g ∷ past)) (lives x.steps x.first) refl refl refl x.on;
         fits = fits_as h.kind h.guard first bits l from (behind_records from l m.out (with_handed handed q))
             (queue from l (g ∷ past)) (end_of from m) (end_of from (link_behind (g ∷ past)))
             (sym (after_is from l m.out (with_handed handed q))

@@ -1,21 +1,19 @@
 -- What a journal tells of a queue, and the queue of the end behind it.
 use Rattle.std.proofs.Common.{◌≡◌, ◌≤◌, ℕ, ◌+◌, Option, List, [], ◌∷◌, ◌++◌, length, append_assoc, refl, ap, sym}
 use Rattle.std.proofs.Common.{subst, ◌∙◌, arith}
-use Rattle.std.specs.List.{AllByRecursion, flat_map}
+use Rattle.std.specs.List.{flat_map}
 use Rattle.std.proofs.lemmas.List.{length-append}
 use Rattle.air_record.specs.declared.record.Record.{Record}
 use Rattle.l2_node.specs.End.{End}
 use Rattle.l2_types.specs.declared.side.Side.{Side}
-use Rattle.law_deliver.specs.AmChannel.Delivery.{was_submitted}
-use Rattle.law_deliver.proofs.AmChannel.Ends.{IsCall}
-use Rattle.law_node.specs.Calls.{Call as EndCall, run_end}
+use Rattle.law_node.specs.Calls.{run_end}
 use Rattle.law_node.specs.Telling.{told_over}
 use Rattle.pdcp_pdu.specs.declared.pdu.PdcpKind.{PdcpKind}
 use Rattle.pdcp_sec.specs.Protection.{Protection}
 use Rattle.promises.specs.Flows.{looped_at}
-use Rattle.promises.specs.Records.{events_of}
 use Rattle.promises.specs.Taken.{leaving_in}
 use Rattle.promises.specs.WaitingSdus.{Queue, after_record, after_records, EachMayLeave}
+use Rattle.law_run.proofs.AnyAir.{ComesBy}
 use Rattle.law_run.proofs.TwoEnds.Stages.{looped_more}
 use Rattle.law_run.proofs.WaitingSdus.Counting.{next_behind, next_both, InTurn, gone, gone_both, left_in, left_both}
 use Rattle.law_run.proofs.WaitingSdus.Counting.{Counted, counted_quiet, counted_then, counted_end, behind_records}
@@ -99,14 +97,14 @@ module _ (kind : PdcpKind) (p : Protection) (first bits l : ℕ) (side : Side) w
     pub turn : InTurn (next_behind first q.leaving) (left_in side l told)
     pub fits : Fits (behind_records side l told (with_handed handed q)) e
 
-  pub walks : (handed : List (List ℕ)) (told : List Record) (q : Queue) (e f : End) (cs : List EndCall)
-      → AllByRecursion (IsCall l) cs → f ≡ run_end cs e → events_of side told ≡ told_over cs e
-      → was_submitted l cs e ≡ handed ++ looped_at side l told → Fits q e → Walks handed told q f
-  walks handed told q e f cs g end_is told_is submitted_is h =
+  pub walks : (handed : List (List ℕ)) (told : List Record) (q : Queue) (e f : End)
+      → ComesBy l side handed told e f → Fits q e → Walks handed told q f
+  walks handed told q e f by h =
       let n = next_behind first q.leaving in
-      let x = goes_on kind p first bits l side n h.waits e cs g h.at in
+      let cs = by.calls in
+      let x = goes_on kind p first bits l side n h.waits e cs by.are h.at in
       let ms = left_in side l told in
-      let same : ms ≡ flat_map (leaving_in l) (told_over cs e) = ap (flat_map (leaving_in l)) told_is in
+      let same : ms ≡ flat_map (leaving_in l) (told_over cs e) = ap (flat_map (leaving_in l)) by.told_is in
       let on : next_behind n (flat_map (leaving_in l) (told_over cs e)) ≡ next_behind first (q.leaving ++ ms) =
       ap (next_behind n) (sym same) ∙ sym (next_both first q.leaving ms) in
       let now = subst (λ (m : ℕ). QueuedAt kind p first bits l side m x.rest (run_end cs e)) on x.at in
@@ -114,13 +112,14 @@ module _ (kind : PdcpKind) (p : Protection) (first bits l : ℕ) (side : Side) w
       let more = x.count in
       let both = gone_both first q.leaving ms in
       let as_told = ap (gone n) same in
-      let given = ap (λ (xs : List (List ℕ)). length xs) submitted_is in
+      let given = ap (λ (xs : List (List ℕ)). length xs) by.submitted_is in
       let parts = length-append handed (looped_at side l told) in
       record {
         turn = subst (InTurn n) (sym same) x.turn;
         fits = record {
           waits = x.rest;
-          at = subst (QueuedAt kind p first bits l side (next_behind first (q.leaving ++ ms)) x.rest) (sym end_is) now;
+          at = subst (QueuedAt kind p first bits l side (next_behind first (q.leaving ++ ms)) x.rest) (sym by.end_is)
+              now;
           count = omega (arith, count, more, both, as_told, given, parts);
         };
       }
