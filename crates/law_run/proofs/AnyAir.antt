@@ -42,7 +42,7 @@ use Rattle.law_run.specs.TwoEnds.On.{until, IsStation, IsOn}
 use Rattle.law_run.proofs.AnyCalls.Calling.{calls_adds}
 use Rattle.law_run.proofs.AnyCalls.Going.{Seen, told_seen, told_both, own_told, other_told, run_on, over_on}
 use Rattle.law_run.proofs.Flowing.{Sdus, Happened, StepLives, GoesThrough, PartLives, step_plays, line_stays}
-use Rattle.law_run.proofs.Texts.{adds_one}
+use Rattle.law_run.proofs.BearerWalk.{adds_one}
 use Rattle.law_run.proofs.TwoEnds.Coming.{ends_come_by, steps_come}
 use Rattle.law_run.proofs.TwoEnds.Going.{calm, station, with_station, last_in, tells_more}
 use Rattle.law_run.proofs.TwoEnds.Resting.{loops_rests}

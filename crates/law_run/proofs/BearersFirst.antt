@@ -15,7 +15,7 @@ use Rattle.promises.specs.Configs.{config_of}
 use Rattle.promises.specs.Order.{Channels}
 use Rattle.law_run.specs.Order.{state_behind, IsRight, KeepsOrder}
 use Rattle.law_run.proofs.Counts.{was_absent}
-use Rattle.law_run.proofs.Delivering.{is_first}
+use Rattle.law_run.proofs.BearerWalk.{is_first}
 use Rattle.law_run.proofs.DrainChannels.{has_listed, config_listed, end_channels}
 use Rattle.law_run.proofs.Early.{configures, unbegun, is_early}
 use Rattle.law_run.proofs.Past.{link_behind}

@@ -7,13 +7,9 @@ use Rattle.std.proofs.lemmas.Bool.Decides.{nat_tests}
 use Rattle.std.specs.List.{AllByRecursion, filter}
 use Rattle.std.specs.Prelude.{IfSome}
 use Rattle.air_link.specs.Link.{end_of}
-use Rattle.air_link.specs.Lines.{bears}
-use Rattle.air_record.specs.declared.line.Line.{Line}
 use Rattle.air_record.specs.declared.line.Line.TheVariants as lines
 use Rattle.air_record.specs.declared.record.Record.{Record}
 use Rattle.air_record.specs.declared.record.Record.TheVariants as records
-use Rattle.air_run.specs.Playing.{keys_or_none, acted}
-use Rattle.air_run.specs.Rules.{accepted}
 use Rattle.air_text.specs.Groups.{Group}
 use Rattle.bearer.specs.Bearer.{flow_of}
 use Rattle.bearer.specs.declared.flow.Flow.{Flow}
@@ -49,7 +45,6 @@ use Rattle.pdcp_tx_store.specs.declared.given.Sent.{Sent}
 use Rattle.rlc_am_tx.specs.Need.{hungry}
 use Rattle.rlc_pdu.specs.declared.outcome.Taken.{Taken}
 use Rattle.rlc_pdu.specs.declared.outcome.Taken.TheVariants.{Piece, Idle, Small, Shut, Held, Stopped}
-use Rattle.prioritise.proofs.ChannelLemmas.{both_false}
 use Rattle.law_bearer.proofs.AnyBearer.Flows.{run_more}
 use Rattle.law_bearer.proofs.AnyBearer.Parts.{pdcp_took}
 use Rattle.law_bearer.proofs.AnyBearer.Sender.{left_of}
@@ -57,7 +52,6 @@ use Rattle.law_bearer.proofs.AnyBearer.Streams.{Arrived, arrives}
 use Rattle.law_bearer.specs.AnyBearer.Calls.{Call as BearerCall, Take as Takes, Step, Calls, Restart, ends}
 use Rattle.law_bearer.specs.AnyBearer.Calls.{after as after_bearer, goes as bearer_goes, reached as bearer_reached}
 use Rattle.law_deliver.proofs.AmFlow.Ups.{tells_of}
-use Rattle.law_deliver.specs.AmChannel.Delivery.{HasBegun}
 use Rattle.law_deliver.specs.AmFlow.Channels.{only, takes_of, GoesOnInLife}
 use Rattle.law_deliver.specs.AmFlow.Ups.{tells_over}
 use Rattle.law_node.proofs.CountsFit.{CountsFit}
@@ -69,22 +63,16 @@ use Rattle.law_node.specs.Holding.{flow}
 use Rattle.law_node.specs.Telling.{told_of, told_over}
 use Rattle.law_node.specs.Writing.{TellNone}
 use Rattle.promises.specs.Bearers.{IsCounted, TellsCount, CountsAreTold}
-use Rattle.promises.specs.Air.{ttis}
-use Rattle.promises.specs.Blocks.{kinds as kinds_behind, AreTold}
-use Rattle.promises.specs.Configs.{config_by, config_of}
 use Rattle.promises.specs.Events.{is_of_loop, is_of_writing, is_on, told_on}
-use Rattle.promises.specs.Parts.{part_of_line}
 use Rattle.promises.specs.Records.{event_of, events_of, is_of_building}
-use Rattle.law_run.specs.Order.{state_behind, IsRight, KeepsOrder}
+use Rattle.law_run.specs.Order.{IsRight, KeepsOrder}
 use Rattle.law_run.proofs.Counts.{goes}
-use Rattle.law_run.proofs.Delivering.{is_first, at_each}
+use Rattle.law_run.proofs.BearerWalk.{adds_one, comes, behind_all}
 use Rattle.law_run.proofs.DrainTracks.{Tracks, IsOfKind, lives_keep, calls_track, begun_tracks}
 use Rattle.law_run.proofs.DrainCounts.{IsAcceptedBy}
-use Rattle.law_run.proofs.Early.{is_early}
 use Rattle.law_run.proofs.Failed.{call_kind}
 use Rattle.law_run.proofs.Past.{link_behind}
-use Rattle.law_run.proofs.Texts.{adds_one, adds_it, adds_none, adds_are, unchanged}
-use Rattle.law_run.proofs.TwoEnds.Lives.{channels_begin}
+use Rattle.law_run.proofs.Texts.{none_added}
 
 -- ---- what RLC may take
 
@@ -336,91 +324,6 @@ module _ (c : BearerConfig) (keys : Keys) (side : Side) where
       counted_both l (told_of e x) (told_over xs (after e x)) (call_told l e x s)
       (calls_told l xs (after e x) given.1 none.1 (call_goes l e x given.0 none.0 s))
 
--- ---- behind groups
-
-record IsSending (side : Side) (l : ℕ) (c : BearerConfig) (past : List Group) : Type 0 where
-  keys : Keys
-  sender : IsSender c keys side l (end_of side (link_behind past))
-
-none_added : (side : Side) (l : ℕ) (past : List Group) (g : Group) (right : IsRight past g) (order : KeepsOrder past)
-    → adds_one l g.line ≡ false → AddNone l (goes side past g right order).by.calls
-none_added side l past g right order other =
-    let k = goes side past g right order in
-    adds_are l k.by.calls
-    (subst (AddNone l) (sym k.lives_are) (adds_none l g.line (state_behind past).rules.keys other))
-
-line_sends : (side : Side) (l : ℕ) (c : BearerConfig) (past : List Group) (g : Group) → IsRight past g
-    → KeepsOrder past → adds_one l g.line ≡ false → IsSending side l c past → IsSending side l c (g ∷ past)
-line_sends side l c past g right order other s =
-    let k = goes side past g right order in
-    record {
-      keys = s.keys;
-      sender = subst (IsSender c s.keys side l) (sym k.by.end_is)
-          (calls_go c s.keys side l k.by.calls (end_of side (link_behind past)) k.by.given
-          (none_added side l past g right order other) s.sender);
-    }
-
-line_told : (side : Side) (l : ℕ) (c : BearerConfig) (past : List Group) (g : Group) → IsRight past g
-    → KeepsOrder past → adds_one l g.line ≡ false → IsSending side l c past → AreCounted l (events_of side g.events)
-line_told side l c past g right order other s =
-    let k = goes side past g right order in
-    subst (AreCounted l) (sym k.by.told_is)
-    (calls_told c s.keys side l k.by.calls (end_of side (link_behind past)) k.by.given
-    (none_added side l past g right order other) s.sender)
-
-begins_sending : (past : List Group) (g : Group) (c : BearerConfig) (options : _)
-    → IsRight past (record g { line = lines.Bearer c options }) → KeepsOrder past → c.kind ≡ kinds.Am → (side : Side)
-    → IsSending side c.channel.lcid c (record g { line = lines.Bearer c options } ∷ past)
-unfolding acted accepted bears
-begins_sending past g c options right order same side =
-    let l = c.channel.lcid in
-    let r = (state_behind past).rules in
-    let k = link_behind past in
-    let keys = keys_or_none r.keys in
-    let count = right.count in
-    let few : c.first < 2 ^ 32 = omega (arith, count) in
-    let f = is_first c options r k right.allowed in
-    let here = both_false _ _ f.none in
-    let rest = (is_early past order f.early).rest in
-    let left = link_behind (record g { line = lines.Bearer c options } ∷ past) in
-    let begun = at_each (λ side. HasBegun side l c keys (end_of side left))
-    (channels_begin c keys k right.in_range rest Nb here.0) (channels_begin c keys k right.in_range rest Ue here.1)
-    side in
-    record {
-      keys = keys;
-      sender = record {
-        tracks = subst (λ kind. Tracks kind side l (end_of side left)) same
-            (begun_tracks side l c keys (end_of side left) few begun);
-        came = record { steps = []; is = begun.bearer_is };
-      };
-    }
-
-sending_by : (b : Bool) (side : Side) (l : ℕ) (past : List Group) (g : Group) (c : BearerConfig)
-    → adds_one l g.line ≡ b → IsRight past g → KeepsOrder past → c.kind ≡ kinds.Am → config_of l (g ∷ past) ≡ Some c
-    → (config_of l past ≡ Some c → IsSending side l c past) → IsSending side l c (g ∷ past)
-sending_by false side l past g c is right order kind e rest =
-    line_sends side l c past g right order is (rest (unchanged l g.line (config_of l past) c is e))
-sending_by true side l past g c is right order kind e rest =
-    let a = adds_it l g.line is in
-    let taken : config_by l (lines.Bearer a.config a.options) (config_of l past) ≡ Some a.config =
-    ap (λ (b : Bool). if b then Some a.config else config_of l past) (sym (ap (adds_one l) a.line_is) ∙ is) in
-    let some : Some a.config ≡ Some c =
-    sym taken ∙ ap (λ (line : Line). config_by l line (config_of l past)) (sym a.line_is) ∙ e in
-    let same : a.config ≡ c = cc in
-    let here = subst (λ (line : Line). IsRight past (record g { line = line })) a.line_is right in
-    let begun = begins_sending past g a.config a.options here order
-    (ap (λ (d : BearerConfig). d.kind) same ∙ kind) side in
-    subst (λ (d : BearerConfig). IsSending side l d (g ∷ past)) same
-    (subst (λ (n : ℕ). IsSending side n a.config (g ∷ past)) a.lcid_is
-    (subst (λ (line : Line). IsSending side a.config.channel.lcid a.config (record g { line = line } ∷ past))
-    (sym a.line_is) begun))
-
-sending : (side : Side) (l : ℕ) (past : List Group) (c : BearerConfig) → KeepsOrder past → c.kind ≡ kinds.Am
-    → config_of l past ≡ Some c → IsSending side l c past
-sending side l [] c order kind e = absurd cc
-sending side l (g ∷ past) c (right, order) kind e =
-    sending_by (adds_one l g.line) side l past g c refl right order kind e (sending side l past c order kind)
-
 -- ---- the records of both ends
 
 event_counted : (b : Bool) (l : ℕ) (e : Event) → not (is_of_loop e) ≡ b → AreCounted l (if b then e ∷ [] else [])
@@ -463,24 +366,60 @@ none_built : (l : ℕ) (told : List Record) → filter is_of_building told ≡ [
 none_built l [] none = tt
 none_built l (one ∷ told) none = unbuilt_by (is_of_building one) l one told refl none (none_built l told)
 
--- ---- each group
+-- ---- behind groups
 
-group_by : (b : Bool) (l : ℕ) (past : List Group) (g : Group) (c : BearerConfig) → adds_one l g.line ≡ b
-    → IsRight past g → KeepsOrder past → c.kind ≡ kinds.Am → config_of l (g ∷ past) ≡ Some c
-    → AllByRecursion (TellsCount l) g.events
-group_by true l past g c is right order kind e =
-    none_built l g.events
-    (subst (λ (line : Line). AreTold (ttis past) (kinds_behind past) (part_of_line line) g.events)
-    (adds_it l g.line is).line_is right.blocks)
-group_by false l past g c is right order kind e =
-    let had = unchanged l g.line (config_of l past) c is e in
-    let told : (side : Side) → AreCounted l (events_of side g.events) =
-    λ side. line_told side l c past g right order is (sending side l past c order kind had) in
-    records_counted l g.events (told Nb) (told Ue)
+-- the newest tells so too
+abbrev Newest : ℕ → List Group → Type 0
+Newest l [] = Unit {0}
+Newest l (g ∷ past) = AllByRecursion (TellsCount l) g.events
+
+record IsSending (l : ℕ) (c : BearerConfig) (past : List Group) : Type 0 where
+  keys : Keys
+  senders : (side : Side) → IsSender c keys side l (end_of side (link_behind past))
+  tells : Newest l past
+
+line_sends : (l : ℕ) (c : BearerConfig) (past : List Group) (g : Group) → IsRight past g → KeepsOrder past
+    → adds_one l g.line ≡ false → IsSending l c past → IsSending l c (g ∷ past)
+line_sends l c past g right order other s =
+    let none : (side : Side) → AddNone l (goes side past g right order).by.calls =
+    λ side. none_added side l past g right order other in
+    let told : (side : Side) → AreCounted l (events_of side g.events) = λ side.
+    let k = goes side past g right order in
+    subst (AreCounted l) (sym k.by.told_is)
+    (calls_told c s.keys side l k.by.calls (end_of side (link_behind past)) k.by.given (none side) (s.senders side)) in
+    record {
+      keys = s.keys;
+      senders = λ side.
+          let k = goes side past g right order in
+          subst (IsSender c s.keys side l) (sym k.by.end_is)
+          (calls_go c s.keys side l k.by.calls (end_of side (link_behind past)) k.by.given (none side)
+          (s.senders side));
+      tells = records_counted l g.events (told Nb) (told Ue);
+    }
+
+begins_sending : (past : List Group) (g : Group) (c : BearerConfig) (options : _)
+    → IsRight past (record g { line = lines.Bearer c options }) → KeepsOrder past → c.kind ≡ kinds.Am
+    → IsSending c.channel.lcid c (record g { line = lines.Bearer c options } ∷ past)
+begins_sending past g c options right order same =
+    let l = c.channel.lcid in
+    let x = comes past g c options right order in
+    let left = link_behind (record g { line = lines.Bearer c options } ∷ past) in
+    record {
+      keys = x.keys;
+      senders = λ side. record {
+        tracks = subst (λ kind. Tracks kind side l (end_of side left)) same
+            (begun_tracks side l c x.keys (end_of side left) x.first (x.begun side));
+        came = record { steps = []; is = (x.begun side).bearer_is };
+      };
+      tells = none_built l g.events right.blocks;
+    }
 
 pub counts_are_told : (past : List Group) → KeepsOrder past → CountsAreTold past
 counts_are_told [] order = tt
 counts_are_told (g ∷ past) (right, order) = (
-  λ l c e kind. group_by (adds_one l g.line) l past g c refl right order kind e,
+  λ l c e kind.
+      (behind_all IsSending (λ d. d.kind ≡ kinds.Am) begins_sending
+      (λ n d groups h at keeps other before s. line_sends n d groups h at keeps other s) l (g ∷ past) c (right, order)
+      kind e).tells,
   counts_are_told past order,
 )

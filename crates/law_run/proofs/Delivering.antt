@@ -1,21 +1,18 @@
 -- Each acknowledged data bearer of a journal hands up the first SDUs of those submitted at the other end.
-use Rattle.std.proofs.Common.{◌≡◌, ◌≤◌, ◌<◌, ◌^◌, arith, ℕ, ◌==◌, Bool, true, false, ◌||◌, ◌&&◌, if◌then◌else◌, cond}
-use Rattle.std.proofs.Common.{Some, None, List, [], ◌∷◌, ◌++◌, map, refl, ap, sym, subst, ◌∙◌}
+use Rattle.std.proofs.Common.{◌≡◌, ◌<◌, ◌^◌, ℕ, ◌==◌, Bool, true, false, ◌||◌, ◌&&◌, if◌then◌else◌, cond}
+use Rattle.std.proofs.Common.{Some, List, [], ◌∷◌, ◌++◌, map, refl, ap, sym, subst, ◌∙◌}
 use Rattle.std.specs.List.{filter}
 use Rattle.std.proofs.lemmas.List.Concat.{flat_map-append}
 use Rattle.bearer_types.specs.Sides.{other as other_end}
 use Rattle.law_words.specs.Lists.{AreFirstSdus, IsSubsequence}
 use Rattle.air_link.specs.Lines.{bears}
-use Rattle.air_link.specs.Link.{Link}
 use Rattle.bearer_types.specs.Sides.{other, sent_by}
-use Rattle.air_record.specs.declared.line.Line.{Line}
 use Rattle.air_record.specs.declared.line.Line.TheVariants as lines
 use Rattle.air_record.specs.declared.record.Record.{Record}
 use Rattle.air_record.specs.declared.record.Record.TheVariants as records
 use Rattle.air_run.specs.Playing.{keys_or_none, acted}
-use Rattle.air_run.specs.Rules.{Rules, is_taken, late, refused_if, rule_broken, refusal, accepted}
+use Rattle.air_run.specs.Rules.{accepted}
 use Rattle.air_run.specs.Run.{behind_line}
-use Rattle.air_run.specs.declared.refusal.RunRefusal.TheVariants.{ConfiguredLate, BearerTwice}
 use Rattle.air_text.specs.Groups.{Group, history}
 use Rattle.bearer_types.specs.Configs.{IsConfig}
 use Rattle.bearer_types.specs.declared.config.BearerConfig.{BearerConfig}
@@ -55,16 +52,15 @@ use Rattle.promises.specs.Delivery.{forges, is_forged, sets_timer, is_timed, dis
 use Rattle.promises.specs.Flows.{handed_in, looped_at, submitted, delivered}
 use Rattle.law_run.specs.Order.{state_behind, IsRight, KeepsOrder}
 use Rattle.promises.specs.Parts.{part_of_line}
-use Rattle.promises.specs.Configs.{config_by, config_of}
+use Rattle.promises.specs.Configs.{config_of}
 use Rattle.law_run.proofs.Early.{is_early}
 use Rattle.law_run.proofs.Failed.{HasSender, sender_goes, sender_begins}
 use Rattle.law_run.proofs.Flowing.{Sdus, Happened, Haps, word_of, with_word}
 use Rattle.law_run.proofs.Lives.{Lived, LineLives, lived_now, unseen, line_lives}
-use Rattle.law_run.proofs.Keys.{not_first, not_second, no_cause}
 use Rattle.law_run.proofs.Past.{behind, link_behind}
 use Rattle.law_run.proofs.Reaching.{kinds_behind}
 use Rattle.law_run.proofs.Seen.{all_seen_flow, noticed_flow, noticed_place, no_flow, new_flow, new_shown}
-use Rattle.law_run.proofs.Texts.{adds_one, adds_it, unchanged}
+use Rattle.law_run.proofs.BearerWalk.{adds_one, is_first, has_bits, at_each, behind_all}
 
 -- ---- what goes up at an end, as records tell it and as the end does
 
@@ -216,28 +212,6 @@ goes_on l c past g right order other own d =
 
 -- ---- the line in which its bearers come
 
-pub record IsFirst (c : BearerConfig) (r : Rules) (k : Link) : Type 0 where
-  pub early : r.begun ≡ false
-  pub none : is_taken c.channel.lcid k ≡ false
-
-pub is_first : (c : BearerConfig) (options : _) (r : Rules) (k : Link) → refusal (lines.Bearer c options) r k ≡ None
-    → IsFirst c r k
-unfolding rule_broken
-is_first c options r k allowed =
-    let taken = refused_if (is_taken c.channel.lcid k) BearerTwice in
-    let all = not_first (rule_broken (lines.Bearer c options) r k) _ allowed in
-    record {
-      early = no_cause r.begun ConfiguredLate (not_first (late r) _ all);
-      none = no_cause (is_taken c.channel.lcid k) BearerTwice (not_first taken _ (not_second (late r) _ all));
-    }
-
-has_bits : (count : ℕ) → count ≤ 4294967295 → count < 2 ^ 32
-has_bits count within = omega (arith, within)
-
-pub at_each : (P : Side → Type 0) → P Nb → P Ue → (side : Side) → P side
-at_each P nb ue Nb = nb
-at_each P nb ue Ue = ue
-
 begin_by : (past : List Group) (g : Group) (c : BearerConfig) (options : _)
     → IsRight past (record g { line = lines.Bearer c options }) → KeepsOrder past
     → IsDelivering c.channel.lcid c (record g { line = lines.Bearer c options } ∷ past)
@@ -290,35 +264,14 @@ begin_by past g c options right order =
 
 -- ---- behind all groups
 
-begins : (past : List Group) (g : Group) (c : BearerConfig) (options : _) → g.line ≡ lines.Bearer c options
-    → IsRight past g → KeepsOrder past → IsDelivering c.channel.lcid c (g ∷ past)
-begins past g c options is right order =
-    subst (λ (line : Line). IsDelivering c.channel.lcid c (record g { line = line } ∷ past)) (sym is)
-    (begin_by past g c options (subst (λ (line : Line). IsRight past (record g { line = line })) is right) order)
-
-delivering_by : (b : Bool) (l : ℕ) (past : List Group) (g : Group) (c : BearerConfig) → adds_one l g.line ≡ b
-    → IsRight past g → KeepsOrder past → config_of l (g ∷ past) ≡ Some c → forges g.line ≡ false
-    → (config_of l past ≡ Some c → IsDelivering l c past) → IsDelivering l c (g ∷ past)
-delivering_by false l past g c is right order e own rest =
-    goes_on l c past g right order is own (rest (unchanged l g.line (config_of l past) c is e))
-delivering_by true l past g c is right order e own rest =
-    let a = adds_it l g.line is in
-    let taken : config_by l (lines.Bearer a.config a.options) (config_of l past) ≡ Some a.config =
-    ap (λ (b : Bool). if b then Some a.config else config_of l past) (sym (ap (adds_one l) a.line_is) ∙ is) in
-    let some : Some a.config ≡ Some c =
-    sym taken ∙ ap (λ (line : Line). config_by l line (config_of l past)) (sym a.line_is) ∙ e in
-    let same : a.config ≡ c = cc in
-    subst (λ (d : BearerConfig). IsDelivering l d (g ∷ past)) same
-    (subst (λ (n : ℕ). IsDelivering n a.config (g ∷ past)) a.lcid_is
-    (begins past g a.config a.options a.line_is right order))
-
 pub is_delivering : (l : ℕ) (past : List Group) (c : BearerConfig) → KeepsOrder past → config_of l past ≡ Some c
     → is_forged past ≡ false → IsDelivering l c past
-is_delivering l [] c order e own = absurd cc
-is_delivering l (g ∷ past) c (right, order) e own =
-    let apart = both_false (forges g.line) (is_forged past) own in
-    delivering_by (adds_one l g.line) l past g c refl right order e apart.0
-    (λ is. is_delivering l past c order is apart.1)
+is_delivering l past c order e own =
+    behind_all (λ n d groups. is_forged groups ≡ false → IsDelivering n d groups) (λ d. Unit {0})
+    (λ groups g d options right keeps any unforged. begin_by groups g d options right keeps)
+    (λ n d groups g right keeps other before h unforged.
+    let apart = both_false (forges g.line) (is_forged groups) unforged in
+    goes_on n d groups g right keeps other apart.0 (h apart.1)) l past c order tt e own
 
 -- ---- of the journal's own words
 

@@ -47,7 +47,7 @@ links_have_counts past order own = all_listed (HaveCounts (link_behind past)) (l
         let same = end_channels Nb past order in
         let there = has_listed l k.nb ∙ ap (λ (c : Channels). is_listed l c.by_lcid) same ∙ here in
         let c = has_config l past k.nb same there in
-        let t = links_track l past c.config order c.is own in
+        let t = links_track l past c.config order c.is in
         (counts_end (flow l k.nb) t.nb.counts, counts_end (flow l k.ue) t.ue.counts)
 
 -- ---- the rounds of the budget are more than the measure that the first TTIs leave

@@ -42,7 +42,7 @@ goes_first past order own may = record {
   gone = drains_begin (link_behind past) may;
   nb_same = end_channels Nb past order;
   ue_same = end_channels Ue past order;
-  tracks = λ l c e. links_track l past c order e own;
+  tracks = λ l c e. links_track l past c order e;
   runs = λ l c e a. links_run l past c order e own a;
 }
 

@@ -4,11 +4,8 @@ use Rattle.std.proofs.Common.{◌∷◌, map, refl, ap, sym, subst, ◌∙◌, a
 use Rattle.std.proofs.lemmas.Bool.Decides.{nat_tests}
 use Rattle.std.specs.List.{AllByRecursion}
 use Rattle.air_link.specs.Link.{Link}
-use Rattle.air_link.specs.Lines.{bears}
 use Rattle.air_record.specs.declared.line.Line.TheVariants as lines
 use Rattle.air_record.specs.declared.record.Record.{Record}
-use Rattle.air_run.specs.Playing.{keys_or_none, acted}
-use Rattle.air_run.specs.Rules.{accepted}
 use Rattle.air_text.specs.Groups.{Group}
 use Rattle.bearer.specs.Acknowledged.State.{State, fresh as fresh_am}
 use Rattle.bearer.specs.Bearer.{flow_of}
@@ -56,22 +53,17 @@ use Rattle.law_deliver.proofs.AmFlow.Channels.{call_by}
 use Rattle.law_deliver.proofs.AmFlow.Stations.{come_sound}
 use Rattle.law_deliver.proofs.AmFlow.Ups.{Stands, stands_more, the_end}
 use Rattle.law_run.specs.AnyCalls.Ends.{LivesOn}
-use Rattle.law_run.proofs.TwoEnds.Lives.{channels_begin}
-use Rattle.prioritise.proofs.ChannelLemmas.{both_false}
 use Rattle.promises.specs.Configs.{config_of}
-use Rattle.promises.specs.Delivery.{is_forged}
 use Rattle.promises.specs.Pdus.{carried}
 use Rattle.law_run.specs.Order.{state_behind, IsRight, KeepsOrder}
 use Rattle.law_node.proofs.CountsFit.{CountsFit, first_counts}
 use Rattle.law_node.proofs.Pdcp.{OfPdcp}
 use Rattle.law_run.proofs.Counts.{goes}
-use Rattle.law_run.proofs.Delivering.{is_first}
+use Rattle.law_run.proofs.BearerWalk.{adds_one, comes, behind_all}
 use Rattle.law_run.proofs.DrainCounts.{IsAcceptedBy, call_counts, restart_counts}
-use Rattle.law_run.proofs.Early.{is_early}
 use Rattle.law_run.proofs.Failed.{call_kind}
 use Rattle.law_run.proofs.Past.{link_behind}
-use Rattle.law_run.proofs.Renewed.{behind_all}
-use Rattle.law_run.proofs.Texts.{adds_are, adds_none, adds_one}
+use Rattle.law_run.proofs.Texts.{adds_are, adds_none}
 use Rattle.pdcp_pdu.specs.declared.PdcpKind.TheVariants.{Srb as SrbKind, Am as AmKind}
 
 -- ---- a bearer of a kind, between two of its calls
@@ -335,35 +327,23 @@ begun_tracks side l c keys e few h = record {
   counts = subst (OfPdcp CountsFit) (sym h.bearer_is) (first_counts c.kind c keys side few);
 }
 
-begins_track : (kind : Kind) (past : List Group) (g : Group) (c : BearerConfig) (options : _)
-    → IsRight past (record g { line = lines.Bearer c options }) → KeepsOrder past → c.kind ≡ kind
-    → TracksBoth kind c.channel.lcid (link_behind (record g { line = lines.Bearer c options } ∷ past))
-unfolding acted accepted bears
-begins_track kind past g c options right order same =
-    let l = c.channel.lcid in
-    let r = (state_behind past).rules in
-    let k = link_behind past in
-    let keys = keys_or_none r.keys in
-    let count = right.count in
-    let few : c.first < 2 ^ 32 = omega (arith, count) in
-    let f = is_first c options r k right.allowed in
-    let here = both_false _ _ f.none in
-    let rest = (is_early past order f.early).rest in
-    let left = link_behind (record g { line = lines.Bearer c options } ∷ past) in
-    let tracks : TracksBoth c.kind l left = record {
+begins_track : (past : List Group) (g : Group) (c : BearerConfig) (options : _)
+    → IsRight past (record g { line = lines.Bearer c options }) → KeepsOrder past
+    → TracksBoth c.kind c.channel.lcid (link_behind (record g { line = lines.Bearer c options } ∷ past))
+begins_track past g c options right order =
+    let x = comes past g c options right order in
+    record {
       goes_with = right.in_range.lcid;
-      nb = begun_tracks Nb l c keys _ few (channels_begin c keys k right.in_range rest Nb here.0);
-      ue = begun_tracks Ue l c keys _ few (channels_begin c keys k right.in_range rest Ue here.1);
-    } in
-    subst (λ (x : Kind). TracksBoth x l left) same tracks
+      nb = begun_tracks Nb c.channel.lcid c x.keys _ x.first (x.begun Nb);
+      ue = begun_tracks Ue c.channel.lcid c x.keys _ x.first (x.begun Ue);
+    }
 
 pub links_track : (l : ℕ) (past : List Group) (c : BearerConfig) → KeepsOrder past → config_of l past ≡ Some c
-    → is_forged past ≡ false → TracksBoth c.kind l (link_behind past)
-links_track l past c order e own =
-    behind_all (λ k groups. TracksBoth c.kind k (link_behind groups))
-    (λ k groups g right keeps other unforged here t. line_tracks c.kind k groups g right keeps other t)
-    (λ k groups g user rrc integrity right keeps t. line_tracks c.kind k groups _ right keeps refl t)
-    (λ kind. kind ≡ c.kind) (begins_track c.kind) l past c order refl e own
+    → TracksBoth c.kind l (link_behind past)
+links_track l past c order e =
+    behind_all (λ k d groups. TracksBoth d.kind k (link_behind groups)) (λ d. Unit {0})
+    (λ groups g d options right keeps any. begins_track groups g d options right keeps)
+    (λ k d groups g right keeps other before t. line_tracks d.kind k groups g right keeps other t) l past c order tt e
 
 -- ---- so signalling keeps nothing
 

@@ -41,7 +41,8 @@ use Rattle.law_run.proofs.Failing.{calls_run, life_unfailed}
 use Rattle.law_run.proofs.Past.{link_behind}
 use Rattle.law_run.proofs.Quiet.{tell_failure}
 use Rattle.law_run.proofs.Reaching.{lives_by}
-use Rattle.law_run.proofs.Texts.{moves_are, adds_are, adds_one, adds_none}
+use Rattle.law_run.proofs.BearerWalk.{adds_one}
+use Rattle.law_run.proofs.Texts.{moves_are, none_added}
 
 -- ---- what is told of a channel
 
@@ -112,24 +113,24 @@ module _ (side : Side) (l : ℕ) where
       (call_goes e c s (call_kind l c none.0) parts.0 unfailed)
 
   -- where one of them begins a life
-  moved_by : (e : End) (c : Call) (cs : List Call) (k : Keys) (ks : List Keys)
+  moved_by : (e : End) (c : Call) (cs : List Call) (k : Keys)
       → GoesOnInLife l c ⊎ ((keys : Keys) × (c ≡ Move keys)) → Stands side l e → AreGiven (c ∷ cs)
-      → AddNone l (c ∷ cs) → moves (c ∷ cs) ≡ k ∷ ks
-      → fails_on l (told_over cs (after e c)) ≡ [] → (moves cs ≡ k ∷ ks → Unfailed l (run_end cs (after e c)))
+      → AddNone l (c ∷ cs) → moves (c ∷ cs) ≡ k ∷ []
+      → fails_on l (told_over cs (after e c)) ≡ [] → (moves cs ≡ k ∷ [] → Unfailed l (run_end cs (after e c)))
       → Unfailed l (run_end cs (after e c))
-  moved_by e c cs k ks (inl life) s g none one quiet rest =
+  moved_by e c cs k (inl life) s g none one quiet rest =
       rest (ap (λ (xs : List Keys). xs ++ moves cs) (sym life.moves_none) ∙ one)
-  moved_by e c cs k ks (inr (keys, is)) s g none one quiet rest =
+  moved_by e c cs k (inr (keys, is)) s g none one quiet rest =
       calls_go (after e c) cs (one_stands e c s g.0 none.0) g.1 none.1 quiet (move_goes e c keys is s)
 
-  calls_move : (e : End) (cs : List Call) (k : Keys) (ks : List Keys) → Stands side l e → AreGiven cs → AddNone l cs
-      → moves cs ≡ k ∷ ks → fails_on l (told_over cs e) ≡ [] → Unfailed l (run_end cs e)
-  calls_move e [] k ks s g none one quiet = absurd cc
-  calls_move e (c ∷ cs) k ks s g none one quiet =
+  calls_move : (e : End) (cs : List Call) (k : Keys) → Stands side l e → AreGiven cs → AddNone l cs
+      → moves cs ≡ k ∷ [] → fails_on l (told_over cs e) ≡ [] → Unfailed l (run_end cs e)
+  calls_move e [] k s g none one quiet = absurd cc
+  calls_move e (c ∷ cs) k s g none one quiet =
       let parts = none_both (fails_on l (told_of e c)) (fails_on l (told_over cs (after e c)))
       (sym (flat_map-append (fails_in l) (told_of e c) (told_over cs (after e c))) ∙ quiet) in
-      moved_by e c cs k ks (call_kind l c none.0) s g none one parts.1
-      (λ more. calls_move (after e c) cs k ks (one_stands e c s g.0 none.0) g.1 none.1 more parts.1)
+      moved_by e c cs k (call_kind l c none.0) s g none one parts.1
+      (λ more. calls_move (after e c) cs k (one_stands e c s g.0 none.0) g.1 none.1 more parts.1)
 
 -- ---- behind groups
 
@@ -137,14 +138,13 @@ pub record HasSender (side : Side) (l : ℕ) (past : List Group) : Type 0 where
   pub stands : Stands side l (end_of side (link_behind past))
   pub unfailed : failed side l past ≡ [] → Unfailed l (end_of side (link_behind past))
 
-record Moves (cs : List Call) : Type 0 where
-  first : Keys
-  rest : List Keys
-  moves_are : moves cs ≡ first ∷ rest
+pub record OneMove (cs : List Call) : Type 0 where
+  pub keys : Keys
+  pub moves_are : moves cs ≡ keys ∷ []
 
-handed_over : (line : Line) (keys : Option Keys) → is_handover line ≡ true → Moves (lives_by line keys)
+pub handed_over : (line : Line) (keys : Option Keys) → is_handover line ≡ true → OneMove (lives_by line keys)
 handed_over (lines.Handover user rrc integrity) keys is =
-    record { first = next_keys user rrc integrity (keys_or_none keys); rest = []; moves_are = refl }
+    record { keys = next_keys user rrc integrity (keys_or_none keys); moves_are = refl }
 handed_over line keys is = absurd cc
 
 module _ (side : Side) (l : ℕ) (past : List Group) (g : Group) (right : IsRight past g) (order : KeepsOrder past)
@@ -155,11 +155,8 @@ module _ (side : Side) (l : ℕ) (past : List Group) (g : Group) (right : IsRigh
   abbrev calls : List Call
   calls = (goes side past g right order).by.calls
 
-  none_added : AddNone l calls
-  none_added =
-      adds_are l calls
-      (subst (AddNone l) (sym (goes side past g right order).lives_are)
-      (adds_none l g.line (state_behind past).rules.keys other))
+  none : AddNone l calls
+  none = none_added side l past g right order other
 
   told : fails_on l (events_of side g.events) ≡ fails_on l (told_over calls here)
   told = ap (fails_on l) (goes side past g right order).by.told_is
@@ -169,11 +166,11 @@ module _ (side : Side) (l : ℕ) (past : List Group) (g : Group) (right : IsRigh
       → Unfailed l (run_end calls here)
   group_by true is quiet =
       let m = handed_over g.line (state_behind past).rules.keys is in
-      calls_move side l here calls m.first m.rest h.stands (goes side past g right order).by.given none_added
+      calls_move side l here calls m.keys h.stands (goes side past g right order).by.given none
       (moves_are calls ∙ ap moves (goes side past g right order).lives_are ∙ m.moves_are) (sym told ∙ quiet)
   group_by false is quiet =
       let parts = none_both (failed side l past) (fails_on l (events_of side g.events)) quiet in
-      calls_go side l here calls h.stands (goes side past g right order).by.given none_added (sym told ∙ parts.1)
+      calls_go side l here calls h.stands (goes side past g right order).by.given none (sym told ∙ parts.1)
       (h.unfailed parts.0)
 
   pub sender_goes : HasSender side l (g ∷ past)
@@ -183,7 +180,7 @@ module _ (side : Side) (l : ℕ) (past : List Group) (g : Group) (right : IsRigh
       record {
         stands =
             subst (Stands side l) there
-            (calls_stand side l here calls h.stands (goes side past g right order).by.given none_added);
+            (calls_stand side l here calls h.stands (goes side past g right order).by.given none);
         unfailed = λ quiet. ap (λ (e : End). has_failed (flow l e)) (sym there)
             ∙ group_by (is_handover g.line) refl quiet;
       }

@@ -47,7 +47,7 @@ use Rattle.promises.specs.Delivery.{forges, sets_timer}
 use Rattle.promises.specs.Parts.{is_handover, Part, Submits, Rests, part_of_line}
 use Rattle.promises.specs.Flows.{handed_in, looped_at}
 use Rattle.law_run.proofs.Early.{none_looped}
-use Rattle.law_run.proofs.Texts.{adds_one}
+use Rattle.law_run.proofs.BearerWalk.{adds_one}
 
 -- the SDUs of each side and channel
 abbrev pub Sdus : Type 0

@@ -30,7 +30,7 @@ use Rattle.um_losses.specs.Told.{told_in, place_behind}
 use Rattle.law_deliver.specs.UmGaps.Whats.{whats}
 use Rattle.promises.specs.Delivery.{forges, sets_timer}
 use Rattle.promises.specs.Parts.{Part, Rests, part_of_line}
-use Rattle.law_run.proofs.Texts.{adds_one}
+use Rattle.law_run.proofs.BearerWalk.{adds_one}
 use Rattle.law_run.proofs.Flowing.{Sdus, Happened, Haps, word_of, with_word, StepLives, GoesThrough, PartLives}
 use Rattle.law_run.proofs.Flowing.{step_plays, line_stays}
 

@@ -1,14 +1,10 @@
 -- From one handover to the next an acknowledged sender numbers its new PDUs from 0 on, one by one, and sends again
 -- what lies in its window.
-use Rattle.std.proofs.Common.{◌≡◌, ◌⊎◌, inl, inr, ℕ, Bool, true, false, ◌||◌, if◌then◌else◌, Option, Some}
+use Rattle.std.proofs.Common.{◌≡◌, ◌⊎◌, inl, inr, ℕ, Bool, true, false, ◌||◌, if◌then◌else◌, Some}
 use Rattle.std.proofs.Common.{List, [], ◌∷◌, ◌++◌, refl, ap, sym, subst, ◌∙◌, arith}
 use Rattle.std.specs.List.{list_any}
 use Rattle.air_link.specs.Link.{end_of}
-use Rattle.air_record.specs.Cells.{next_keys}
-use Rattle.air_record.specs.declared.line.Line.{Line}
-use Rattle.air_record.specs.declared.line.Line.TheVariants as lines
 use Rattle.air_record.specs.declared.record.Record.TheVariants as records
-use Rattle.air_run.specs.Playing.{keys_or_none}
 use Rattle.air_text.specs.Groups.{Group, history}
 use Rattle.bearer.specs.declared.flow.Flow.{Flow}
 use Rattle.bearer.specs.declared.flow.Flow.TheVariants.{Am}
@@ -38,7 +34,7 @@ use Rattle.pdcp_pdu.specs.declared.PdcpKind.TheVariants as pdcp
 use Rattle.prioritise.proofs.ChannelLemmas.{both_false}
 use Rattle.promises.specs.Air.{ttis}
 use Rattle.promises.specs.Blocks.{kinds as kinds_told}
-use Rattle.promises.specs.Configs.{config_by, config_of}
+use Rattle.promises.specs.Configs.{config_of}
 use Rattle.promises.specs.Events.{told_on}
 use Rattle.promises.specs.Names.{SentPdu, sent_pdus}
 use Rattle.promises.specs.Parts.{is_handover}
@@ -50,16 +46,16 @@ use Rattle.rlc_am_tx_window.specs.Window.{next}
 use Rattle.law_run.specs.Order.{state_behind, IsRight, KeepsOrder}
 use Rattle.law_run.proofs.AnyCalls.Going.{told_both}
 use Rattle.law_run.proofs.Counts.{goes}
-use Rattle.law_run.proofs.Failed.{call_kind}
+use Rattle.law_run.proofs.Failed.{call_kind, handed_over}
 use Rattle.law_run.proofs.Numbered.{Fits, AreNumbered, number_over, still_numbered, still_over}
 use Rattle.law_run.proofs.Numbered.{on_channel, next_over, numbers_then, next_then}
 use Rattle.law_run.proofs.Numbering.{calls_number}
 use Rattle.law_run.proofs.Past.{link_behind}
 use Rattle.law_run.proofs.Quiet.{tell_sender, any_both}
-use Rattle.law_run.proofs.Reaching.{lives_by}
-use Rattle.law_run.proofs.Silent.{line_still, on_still, in_life, moves_none, no_events, Comes, comes, since}
+use Rattle.law_run.proofs.Silent.{line_still, on_still, in_life, moves_none, no_events, since}
 use Rattle.law_run.proofs.Standing.{lines_tell}
-use Rattle.law_run.proofs.Texts.{moves_are, adds_are, adds_one, adds_it, adds_none, unchanged}
+use Rattle.law_run.proofs.BearerWalk.{adds_one, Comes, comes, behind_all}
+use Rattle.law_run.proofs.Texts.{moves_are, none_added}
 
 -- ---- a bearer that begins, and tells nothing of its sender
 
@@ -138,15 +134,6 @@ module _ (side : Side) (l : ℕ) where
       moves_first e c cs b (call_kind l c none.0) s g none k one is parts.1
       (λ b' more is'. calls_first d cs k b' (one_stands e c s g.0 none.0) g.1 none.1 more is' parts.1)
 
-record OneMove (cs : List Call) : Type 0 where
-  keys : Keys
-  moves_are : moves cs ≡ keys ∷ []
-
-handed_over : (line : Line) (keys : Option Keys) → is_handover line ≡ true → OneMove (lives_by line keys)
-handed_over (lines.Handover user rrc integrity) keys is =
-    record { keys = next_keys user rrc integrity (keys_or_none keys); moves_are = refl }
-handed_over line keys is = absurd cc
-
 -- ---- behind groups
 
 record Sending (side : Side) (l : ℕ) (past : List Group) : Type 0 where
@@ -185,11 +172,8 @@ module _ (side : Side) (l : ℕ) (past : List Group) (g : Group) (right : IsRigh
   abbrev sent : List SentPdu
   sent = sent_in side g.events
 
-  none_added : AddNone l calls
-  none_added =
-      adds_are l calls
-      (subst (AddNone l) (sym (goes side past g right order).lives_are)
-      (adds_none l g.line (state_behind past).rules.keys other))
+  none : AddNone l calls
+  none = none_added side l past g right order other
 
   told_is : told ≡ told_on l (told_over calls here)
   told_is = ap (told_on l) (goes side past g right order).by.told_is
@@ -200,7 +184,7 @@ module _ (side : Side) (l : ℕ) (past : List Group) (g : Group) (right : IsRigh
       let still : moves calls ≡ [] =
       moves_are calls ∙ ap moves k.lives_are ∙ moves_none g.line (state_behind past).rules.keys is in
       let t : TellsOver l here calls =
-      over_tells side l here calls stands k.by.given (in_life l calls none_added still) in
+      over_tells side l here calls stands k.by.given (in_life l calls none still) in
       let own = calls_over l calls here in
       let n = calls_number l s.bearer own in
       let w = n.writes s.fits in
@@ -234,7 +218,7 @@ module _ (side : Side) (l : ℕ) (past : List Group) (g : Group) (right : IsRigh
       on_still l (events_of side g.events)
       (line_still side l (ttis past) (kinds_told past) (λ s. channels past) g.line g.events
       (ap (λ (b : Bool). b || adds_one l g.line) is) (lines_tell (g ∷ past) (right, order)).0) in
-      let f = calls_first side l here calls m.keys s.bearer stands k.by.given none_added
+      let f = calls_first side l here calls m.keys s.bearer stands k.by.given none
       (moves_are calls ∙ ap moves k.lives_are ∙ m.moves_are) s.flow_is (ap tell_sender (sym told_is) ∙ quiet) in
       let on = on_channel l 0 (events_of side g.events) (still_numbered 0 told quiet) in
       let all : sent_since side (g ∷ past) ≡ sent =
@@ -267,44 +251,28 @@ comes_first : (kind : Kind) (c : BearerConfig) (keys : Keys) (side : Side) → k
 comes_first kind c keys side e =
     subst (λ (k : Kind). IsFirst (flow_of k c keys side)) (sym e) (begins_first c keys side)
 
-begins : (side : Side) (past : List Group) (c : BearerConfig) → Comes side c past → c.kind ≡ kinds.Am
+begins : (side : Side) (past : List Group) (c : BearerConfig) → Comes c past → c.kind ≡ kinds.Am
     → Sending side c.channel.lcid past
 begins side past c h kind =
     let l = c.channel.lcid in
-    let none = sym (none_since side past h.none_told) in
-    begins_sending side l past (subst IsFirst (sym h.begun.bearer_is) (comes_first c.kind c h.keys side kind))
+    let none = sym (none_since side past (h.early.none_told side)) in
+    begins_sending side l past (subst IsFirst (sym (h.begun side).bearer_is) (comes_first c.kind c h.keys side kind))
     (subst (λ (xs : List SentPdu). AreNumbers l 0 xs) none tt) (ap (next_over l 0) (sym none))
 
 -- ---- behind all groups
 
-sending_by : (b : Bool) (side : Side) (l : ℕ) (past : List Group) (g : Group) (c : BearerConfig)
-    → adds_one l g.line ≡ b → IsRight past g → KeepsOrder past → config_of l (g ∷ past) ≡ Some c → c.kind ≡ kinds.Am
-    → (config_of l past ≡ Some c → Sending side l past) → Sending side l (g ∷ past)
-sending_by false side l past g c is right order e kind rest =
-    let before = unchanged l g.line (config_of l past) c is e in
-    group_sends side l past g right order (since side l past c order before).sender.stands (rest before) is
-    (is_handover g.line) refl
-sending_by true side l past g c is right order e kind rest =
-    let a = adds_it l g.line is in
-    let taken : config_by l (lines.Bearer a.config a.options) (config_of l past) ≡ Some a.config =
-    ap (λ (b : Bool). if b then Some a.config else config_of l past) (sym (ap (adds_one l) a.line_is) ∙ is) in
-    let some : Some a.config ≡ Some c =
-    sym taken ∙ ap (λ (line : Line). config_by l line (config_of l past)) (sym a.line_is) ∙ e in
-    let same : a.config ≡ c = cc in
-    subst (λ (n : ℕ). Sending side n (g ∷ past)) a.lcid_is
-    (begins side (g ∷ past) a.config (comes side past g a.config a.options a.line_is right order)
-    (ap (λ (x : BearerConfig). x.kind) same ∙ kind))
-
-sending : (side : Side) (l : ℕ) (past : List Group) (c : BearerConfig) → KeepsOrder past → config_of l past ≡ Some c
-    → c.kind ≡ kinds.Am → Sending side l past
-sending side l [] c order e kind = absurd cc
-sending side l (g ∷ past) c (right, order) e kind =
-    sending_by (adds_one l g.line) side l past g c refl right order e kind
-    (λ is. sending side l past c order is kind)
+sending : (side : Side) (l : ℕ) (past : List Group) (c : BearerConfig) → KeepsOrder past → c.kind ≡ kinds.Am
+    → config_of l past ≡ Some c → Sending side l past
+sending side =
+    behind_all (λ n d groups. Sending side n groups) (λ d. d.kind ≡ kinds.Am)
+    (λ groups g d options right keeps kind. begins side _ d (comes groups g d options right keeps) kind)
+    (λ n d groups g right keeps other before h.
+    group_sends side n groups g right keeps (since side n groups d keeps before).sender.stands h other
+    (is_handover g.line) refl)
 
 pub numbers_are_sent : (past : List Group) → KeepsOrder past → NumbersAreSent past
 numbers_are_sent [] order = tt
 numbers_are_sent (g ∷ past) (right, order) = (
-  λ side lcid config is kind. (sending side lcid (g ∷ past) config (right, order) is kind).numbers,
+  λ side lcid config is kind. (sending side lcid (g ∷ past) config (right, order) kind is).numbers,
   numbers_are_sent past order,
 )

@@ -34,17 +34,16 @@ use Rattle.law_deliver.specs.AmFlow.Air.{Air, outset}
 use Rattle.law_node.proofs.Queueing.{waits_in}
 use Rattle.law_node.specs.Calls.{Add, Move, after as after_call}
 use Rattle.law_node.specs.Holding.{flow}
-use Rattle.law_run.proofs.Delivering.{is_first, at_each}
+use Rattle.law_run.proofs.BearerWalk.{adds_one, is_first, at_each, behind_all}
 use Rattle.law_run.proofs.Early.{is_early}
 use Rattle.law_run.proofs.Flowing.{Sdus, Happened, looped_then, PartLives, line_stays}
 use Rattle.law_run.proofs.Keys.{not_first, not_second, no_cause}
 use Rattle.law_run.proofs.Lives.{InOneLife, through_life}
 use Rattle.law_run.proofs.Past.{behind, link_behind}
-use Rattle.law_run.proofs.Texts.{adds_one, adds_it, unchanged}
 use Rattle.law_run.specs.Order.{state_behind, IsRight, KeepsOrder}
 use Rattle.prioritise.proofs.ChannelLemmas.{both_false}
 use Rattle.promises.specs.Arrival.{entries_ended, entries_in}
-use Rattle.promises.specs.Configs.{config_by, config_of}
+use Rattle.promises.specs.Configs.{config_of}
 use Rattle.promises.specs.Delivery.{forges, is_forged, sets_timer}
 use Rattle.promises.specs.Flows.{handed_in, looped_at, submitted}
 use Rattle.promises.specs.Parts.{is_handover, part_of_line}
@@ -320,41 +319,17 @@ module _ (P : ℕ → List Group → Type 0)
           (subst (λ (line : Line). IsRight past (record g { line = line })) is right) order d)
       over line is h = absurd cc
 
-  module _ (K : Kind → Type 0)
-      (begins : (past : List Group) (g : Group) (c : BearerConfig) (options : _)
+  pub lives_behind : (K : Kind → Type 0) → ((past : List Group) (g : Group) (c : BearerConfig) (options : _)
       → IsRight past (record g { line = lines.Bearer c options }) → KeepsOrder past → K c.kind
-      → P c.channel.lcid (record g { line = lines.Bearer c options } ∷ past)) where
-    begins_so : (past : List Group) (g : Group) (c : BearerConfig) (options : _) → g.line ≡ lines.Bearer c options
-        → IsRight past g → KeepsOrder past → K c.kind → P c.channel.lcid (g ∷ past)
-    begins_so past g c options is right order kind =
-        subst (λ (line : Line). P c.channel.lcid (record g { line = line } ∷ past)) (sym is)
-        (begins past g c options (subst (λ (line : Line). IsRight past (record g { line = line })) is right) order
-        kind)
-
-    added_by : (b : Bool) (l : ℕ) (past : List Group) (g : Group) (c : BearerConfig) → adds_one l g.line ≡ b
-        → IsRight past g → KeepsOrder past → K c.kind → config_of l (g ∷ past) ≡ Some c → forges g.line ≡ false
-        → (config_of l past ≡ Some c → P l past) → P l (g ∷ past)
-    added_by false l past g c is right order kind e own rest =
-        line_by (is_handover g.line) l past g refl is right order own
-        (rest (unchanged l g.line (config_of l past) c is e))
-    added_by true l past g c is right order kind e own rest =
-        let a = adds_it l g.line is in
-        let taken : config_by l (lines.Bearer a.config a.options) (config_of l past) ≡ Some a.config =
-        ap (λ (b : Bool). if b then Some a.config else config_of l past) (sym (ap (adds_one l) a.line_is) ∙ is) in
-        let some : Some a.config ≡ Some c =
-        sym taken ∙ ap (λ (line : Line). config_by l line (config_of l past)) (sym a.line_is) ∙ e in
-        let same : c.kind ≡ a.config.kind = cc in
-        subst (λ (n : ℕ). P n (g ∷ past)) a.lcid_is
-        (begins_so past g a.config a.options a.line_is right order (subst K same kind))
-
-    pub behind_all : (l : ℕ) (past : List Group) (c : BearerConfig) → KeepsOrder past → K c.kind
-        → config_of l past ≡ Some c → is_forged past ≡ false → P l past
-    behind_all l [] c order kind e own = absurd cc
-    behind_all l (g ∷ past) c (right, order) kind e own =
-        let apart = both_false (forges g.line) (is_forged past) own in
-        added_by (adds_one l g.line) l past g c refl right order kind e apart.0
-        (λ is. behind_all l past c order kind is apart.1)
+      → P c.channel.lcid (record g { line = lines.Bearer c options } ∷ past)) → (l : ℕ) (past : List Group)
+      (c : BearerConfig) → KeepsOrder past → K c.kind → config_of l past ≡ Some c → is_forged past ≡ false → P l past
+  lives_behind K begins =
+      behind_all (λ l c past. is_forged past ≡ false → P l past) (λ c. K c.kind)
+      (λ past g c options right order kind own. begins past g c options right order kind)
+      (λ l c past g right order other before d own.
+      let apart = both_false (forges g.line) (is_forged past) own in
+      line_by (is_handover g.line) l past g refl other right order apart.0 (d apart.1))
 
 pub is_renewed : (l : ℕ) (past : List Group) (c : BearerConfig) → KeepsOrder past → (c.kind ≡ Tm) ⊎ (c.kind ≡ Srb)
     → config_of l past ≡ Some c → is_forged past ≡ false → IsRenewed l past
-is_renewed = behind_all IsRenewed stays_renewed moves_renewed (λ kind. (kind ≡ Tm) ⊎ (kind ≡ Srb)) begins_renewed
+is_renewed = lives_behind IsRenewed stays_renewed moves_renewed (λ kind. (kind ≡ Tm) ⊎ (kind ≡ Srb)) begins_renewed

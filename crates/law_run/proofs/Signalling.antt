@@ -50,7 +50,7 @@ use Rattle.law_deliver.proofs.SrbChannel.Running.{came_as, came_down, came_up}
 use Rattle.law_deliver.proofs.SrbChannel.Running.{none_lost_between, starts_first, starts_anew}
 use Rattle.law_deliver.specs.SrbDelivery.Arrival.{passes_of}
 use Rattle.law_run.proofs.Renewed.{IsRenewed, line_since, stays_renewed, kept_by, moves_renewed, none_both, if_none}
-use Rattle.law_run.proofs.Renewed.{begins_renewed, line_by, behind_all}
+use Rattle.law_run.proofs.Renewed.{begins_renewed, line_by, lives_behind}
 use Rattle.law_run.proofs.Passing.{tells_passes, no_air_passes, none_behind, none_passed, passed_stays, passed_line}
 use Rattle.law_words.specs.Passing.{Passing, nothing_told, with_passings}
 use Rattle.pdcp_pdu.specs.Kinds.{bits_of}
@@ -64,14 +64,14 @@ use Rattle.law_run.specs.Order.{state_behind, IsRight, KeepsOrder}
 use Rattle.promises.specs.Signalling.{submitted_since, delivered_since, losses_since, SignalAll, DeliversEachLife}
 use Rattle.promises.specs.Signalling.{LeavesNoSignal, DrainsLeaveNoSignal, BringsNoSignal, HandoversBringNoSignal}
 use Rattle.promises.specs.Configs.{config_of}
-use Rattle.law_run.proofs.Delivering.{ups_are_told, ups_told, is_first, at_each}
+use Rattle.law_run.proofs.BearerWalk.{is_first, at_each, adds_one}
+use Rattle.law_run.proofs.Delivering.{ups_are_told, ups_told}
 use Rattle.law_run.proofs.Early.{is_early}
 use Rattle.law_run.proofs.Failed.{HasSender, sender_goes, sender_begins}
 use Rattle.law_run.proofs.DrainBegins.{none_forged}
 use Rattle.law_run.proofs.DrainDone.{is_done}
 use Rattle.law_run.proofs.Drains.{side_drained}
 use Rattle.law_run.proofs.Past.{behind, link_behind}
-use Rattle.law_run.proofs.Texts.{adds_one}
 use Rattle.law_run.proofs.Unlooped.{none_looped}
 
 -- ---- what an end lost
@@ -324,7 +324,7 @@ begin_by past g c options right order kind =
 
 pub is_signalling : (l : ℕ) (past : List Group) (c : BearerConfig) → KeepsOrder past → c.kind ≡ Srb
     → config_of l past ≡ Some c → is_forged past ≡ false → IsSignalling l past
-is_signalling = behind_all IsSignalling stays_on moves_on (λ kind. kind ≡ Srb) begin_by
+is_signalling = lives_behind IsSignalling stays_on moves_on (λ kind. kind ≡ Srb) begin_by
 
 -- ---- the promises
 

@@ -3,14 +3,11 @@ use Rattle.std.proofs.Common.{◌≡◌, ℕ, Bool, true, false, cond, ◌||◌,
 use Rattle.std.proofs.Common.{List, [], ◌∷◌}
 use Rattle.std.proofs.Common.{◌++◌, map, refl, ap, sym, subst, ◌∙◌}
 use Rattle.std.specs.List.{AllByRecursion, filter}
-use Rattle.air_link.specs.Lines.{bears}
 use Rattle.air_link.specs.Link.{end_of}
 use Rattle.air_record.specs.declared.line.Line.{Line}
 use Rattle.air_record.specs.declared.line.Line.TheVariants as lines
 use Rattle.air_record.specs.declared.record.Record.{Record}
 use Rattle.air_record.specs.declared.record.Record.TheVariants as records
-use Rattle.air_run.specs.Rules.{accepted}
-use Rattle.air_run.specs.Playing.{keys_or_none, acted}
 use Rattle.air_text.specs.Groups.{Group, history}
 use Rattle.bearer.specs.declared.flow.Flow.{Flow}
 use Rattle.bearer_types.specs.Sides.{is_same}
@@ -23,11 +20,9 @@ use Rattle.l2_types.specs.declared.event.Lost.TheVariants as losts
 use Rattle.l2_types.specs.declared.side.Side.{Side}
 use Rattle.l2_types.specs.declared.side.Side.TheVariants.{Nb, Ue}
 use Rattle.law_run.proofs.AnyCalls.Going.{told_both}
-use Rattle.law_run.proofs.TwoEnds.Lives.{channels_begin}
 use Rattle.law_deliver.specs.AmChannel.Drained.{has_failed}
 use Rattle.law_deliver.specs.AmFlow.Channels.{GoesOnInLife}
 use Rattle.law_bearer.specs.AnyBearer.Calls.{after_all}
-use Rattle.law_deliver.specs.AmChannel.Delivery.{HasBegun}
 use Rattle.law_deliver.specs.AmFlow.Ups.{TellsOver, calls_over, tells_over}
 use Rattle.law_deliver.proofs.AmFlow.Events.{OfSdus, end_holds}
 use Rattle.law_deliver.proofs.AmFlow.Ups.{over_tells}
@@ -49,15 +44,14 @@ use Rattle.promises.specs.Silent.{is_of_sender, behind_failure, told_since, Fail
 use Rattle.promises.specs.Telling.{LineTells, channels}
 use Rattle.law_run.specs.Order.{state_behind, IsRight, KeepsOrder}
 use Rattle.law_run.proofs.Counts.{goes}
-use Rattle.law_run.proofs.Delivering.{is_first, at_each}
-use Rattle.law_run.proofs.Early.{is_early}
+use Rattle.law_run.proofs.BearerWalk.{adds_one, Comes, comes, behind_all}
 use Rattle.law_run.proofs.Failed.{HasSender, sender_goes, sender_begins, begins_unfailed}
 use Rattle.law_run.proofs.Failing.{calls_run}
 use Rattle.law_run.proofs.Past.{link_behind}
 use Rattle.law_run.proofs.Quiet.{tell_sender, none_both, Quiet, Runs, runs_still, runs_then, runs_as, none_behind}
 use Rattle.law_run.proofs.Reaching.{lives_by}
 use Rattle.law_run.proofs.Standing.{lines_tell}
-use Rattle.law_run.proofs.Texts.{moves_are, adds_are, adds_one, adds_it, adds_none, unchanged}
+use Rattle.law_run.proofs.Texts.{moves_are, none_added}
 
 -- ---- in a handover nothing is told of a sender
 
@@ -204,10 +198,9 @@ module _ (side : Side) (l : ℕ) (past : List Group) (g : Group) (right : IsRigh
       → Runs (has_failed (flow l here)) told (has_failed (flow l there))
   life_runs is other =
       let k = goes side past g right order in
-      let keys = (state_behind past).rules.keys in
-      let none : AddNone l calls =
-      adds_are l calls (subst (AddNone l) (sym k.lives_are) (adds_none l g.line keys other)) in
-      let still : moves calls ≡ [] = moves_are calls ∙ ap moves k.lives_are ∙ moves_none g.line keys is in
+      let none = none_added side l past g right order other in
+      let still : moves calls ≡ [] =
+      moves_are calls ∙ ap moves k.lives_are ∙ moves_none g.line (state_behind past).rules.keys is in
       let t : TellsOver l here calls =
       over_tells side l here calls s.sender.stands k.by.given (in_life l calls none still) in
       let f = flow l here in
@@ -273,69 +266,27 @@ none_since side l (g ∷ past) e =
     if_none (is_handover g.line) (told_since side l past) (told_on l (events_of side g.events))
     (none_since side l past parts.0) (ap (told_on l) parts.1)
 
--- it begins at both ends, and nothing has been told
-pub record Comes (side : Side) (c : BearerConfig) (past : List Group) : Type 0 where
-  pub keys : Keys
-  pub begun : HasBegun side c.channel.lcid c keys (end_of side (link_behind past))
-  pub none_told : events_of side (history past) ≡ []
-
-comes_by : (side : Side) (past : List Group) (g : Group) (c : BearerConfig) (options : _)
-    → IsRight past (record g { line = lines.Bearer c options }) → KeepsOrder past
-    → Comes side c (record g { line = lines.Bearer c options } ∷ past)
-unfolding acted accepted bears
-comes_by side past g c options right order =
-    let l = c.channel.lcid in
-    let r = (state_behind past).rules in
-    let k = link_behind past in
-    let keys = keys_or_none r.keys in
-    let f = is_first c options r k right.allowed in
-    let here = both_false _ _ f.none in
-    let all : List Group = record g { line = lines.Bearer c options } ∷ past in
-    let rest = (is_early past order f.early).rest in
-    record {
-      keys = keys;
-      begun =
-          at_each (λ s. HasBegun s l c keys (end_of s (link_behind all)))
-          (channels_begin c keys k right.in_range rest Nb here.0)
-          (channels_begin c keys k right.in_range rest Ue here.1) side;
-      none_told = (is_early all (right, order) f.early).none_told side;
-    }
-
-pub comes : (side : Side) (past : List Group) (g : Group) (c : BearerConfig) (options : _)
-    → g.line ≡ lines.Bearer c options → IsRight past g → KeepsOrder past → Comes side c (g ∷ past)
-comes side past g c options is right order =
-    subst (λ (line : Line). Comes side c (record g { line = line } ∷ past)) (sym is)
-    (comes_by side past g c options (subst (λ (line : Line). IsRight past (record g { line = line })) is right) order)
-
-begins : (side : Side) (past : List Group) (c : BearerConfig) → Comes side c past → Since side c.channel.lcid past
+begins : (side : Side) (past : List Group) (c : BearerConfig) → Comes c past → Since side c.channel.lcid past
 begins side past c h =
     let l = c.channel.lcid in
+    let begun = h.begun side in
     let failed = has_failed (flow l (end_of side (link_behind past))) in
     record {
-      sender = sender_begins side l c h.keys past h.begun;
+      sender = sender_begins side l c h.keys past begun;
       runs =
-          subst (λ (es : List Event). Runs false es failed) (sym (none_since side l past h.none_told))
+          subst (λ (es : List Event). Runs false es failed) (sym (none_since side l past (h.early.none_told side)))
           (runs_as false failed false false [] refl
-          (ap has_failed h.begun.bearer_is ∙ begins_unfailed c.kind c h.keys side) (runs_still false [] refl));
+          (ap has_failed begun.bearer_is ∙ begins_unfailed c.kind c h.keys side) (runs_still false [] refl));
     }
 
 -- ---- behind all groups
 
-since_of : (b : Bool) (side : Side) (l : ℕ) (past : List Group) (g : Group) (c : BearerConfig) → adds_one l g.line ≡ b
-    → IsRight past g → KeepsOrder past → config_of l (g ∷ past) ≡ Some c
-    → (config_of l past ≡ Some c → Since side l past) → Since side l (g ∷ past)
-since_of false side l past g c is right order e rest =
-    goes_since side l past g right order (rest (unchanged l g.line (config_of l past) c is e)) is
-since_of true side l past g c is right order e rest =
-    let a = adds_it l g.line is in
-    subst (λ (n : ℕ). Since side n (g ∷ past)) a.lcid_is
-    (begins side (g ∷ past) a.config (comes side past g a.config a.options a.line_is right order))
-
 pub since : (side : Side) (l : ℕ) (past : List Group) (c : BearerConfig) → KeepsOrder past → config_of l past ≡ Some c
     → Since side l past
-since side l [] c order e = absurd cc
-since side l (g ∷ past) c (right, order) e =
-    since_of (adds_one l g.line) side l past g c refl right order e (λ is. since side l past c order is)
+since side l past c order e =
+    behind_all (λ n d groups. Since side n groups) (λ d. Unit {0})
+    (λ groups g d options right keeps any. begins side _ d (comes groups g d options right keeps))
+    (λ n d groups g right keeps other before h. goes_since side n groups g right keeps h other) l past c order tt e
 
 pub failed_are_silent : (past : List Group) → KeepsOrder past → FailedAreSilent past
 failed_are_silent [] order = tt

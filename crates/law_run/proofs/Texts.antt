@@ -1,9 +1,8 @@
 -- Each bearer goes on through the groups of a journal in lives under the keys that lines gave, and no text of any meets
 -- another.
-use Rattle.std.proofs.Common.{◌≡◌, inl, inr, ℕ, ◌==◌, Bool, true, false, cond, ◌&&◌, if◌then◌else◌, Option}
+use Rattle.std.proofs.Common.{◌≡◌, ℕ, Bool, true, false, cond, ◌&&◌, if◌then◌else◌, Option}
 use Rattle.std.proofs.Common.{Some, None, is_none, is_some, List, [], ◌∷◌, ◌++◌, append-nil, refl, ap, sym, ◌∙◌}
 use Rattle.std.proofs.Common.{subst}
-use Rattle.std.proofs.lemmas.Bool.{cases_Bool}
 use Rattle.std.specs.List.{filter}
 use Rattle.air_link.specs.Link.{Link, end_of}
 use Rattle.air_record.specs.declared.line.Line.{Line}
@@ -16,7 +15,6 @@ use Rattle.air_run.specs.Rules.{Rules, no_rules, wants_keys, is_taken, late, lat
 use Rattle.air_run.specs.Rules.{refusal, accepted}
 use Rattle.air_run.specs.Run.{fresh}
 use Rattle.air_text.specs.Groups.{Group, history}
-use Rattle.air_text.specs.Ranges.{IsInRange}
 use Rattle.bearer.specs.Bearer.{flow_of}
 use Rattle.bearer.specs.declared.flow.Flow.{Flow}
 use Rattle.law_bearer.specs.AnyBearer.Calls.{Step, run_bearer, reached as bearer_reached}
@@ -44,8 +42,9 @@ use Rattle.promises.specs.Blocks.{kinds, AreTold}
 use Rattle.law_run.specs.Order.{state_behind, IsRight, KeepsOrder}
 use Rattle.promises.specs.Parts.{part_of_line}
 use Rattle.promises.specs.Keys.{keys_in_force_by, keys_in_force, gives_keys, keys_given}
-use Rattle.promises.specs.Configs.{config_by, config_of}
-use Rattle.law_run.proofs.Counts.{same_lcid, come, goes, none_taken}
+use Rattle.promises.specs.Configs.{config_of}
+use Rattle.law_run.proofs.BearerWalk.{adds_one, behind_all}
+use Rattle.law_run.proofs.Counts.{come, goes, none_taken}
 use Rattle.law_run.proofs.Keys.{not_first, not_second, no_cause}
 use Rattle.law_run.proofs.Past.{link_behind}
 use Rattle.law_run.proofs.Reaching.{lives_by}
@@ -240,15 +239,18 @@ moved_by (lines.Handover user rrc integrity) r l past allowed keyed e =
     ap (λ alg. record { alg = alg; user = user; rrc = rrc; integrity = integrity } ∷ []) (sym e)
 moved_by line r l past allowed keyed e = refl
 
-abbrev pub adds_one : ℕ → Line → Bool
-adds_one lcid (lines.Bearer config options) = config.channel.lcid == lcid
-adds_one lcid line = false
-
 pub adds_none : (lcid : ℕ) (line : Line) (keys : Option Keys) → adds_one lcid line ≡ false
     → AddNone lcid (lives_by line keys)
 adds_none lcid (lines.Bearer config options) keys free = (free, tt)
 adds_none lcid (lines.Handover user rrc integrity) keys free = (refl, tt)
 adds_none lcid line keys free = tt
+
+pub none_added : (side : Side) (lcid : ℕ) (past : List Group) (g : Group) (right : IsRight past g)
+    (order : KeepsOrder past) → adds_one lcid g.line ≡ false → AddNone lcid (goes side past g right order).by.calls
+none_added side lcid past g right order free =
+    let k = goes side past g right order in
+    adds_are lcid k.by.calls
+    (subst (AddNone lcid) (sym k.lives_are) (adds_none lcid g.line (state_behind past).rules.keys free))
 
 goes_there : (side : Side) (lcid : ℕ) (past : List Group) (g : Group) (config : BearerConfig) → IsRight past g
     → KeepsOrder past → adds_one lcid g.line ≡ false → IsThere side lcid past config
@@ -261,7 +263,7 @@ goes_there side lcid past g config right order free t =
     let k = goes side past g right order in
     let calls = k.by.calls in
     let f = flow_of config.kind config t.keys side in
-    let none = adds_are lcid calls (subst (AddNone lcid) (sym k.lives_are) (adds_none lcid g.line r.keys free)) in
+    let none = none_added side lcid past g right order free in
     let on = go_on side 4 false p.calls calls lcid p.given k.by.given
     (ap (λ (x : End). has lcid x.bearers) (sym p.end_is) ∙ t.there) none in
     let here = reached side 4 false p.calls in
@@ -395,54 +397,14 @@ begin_there side past g config options line_is right order wants =
 
 -- ---- each bearer that has keys
 
-pub unchanged : (lcid : ℕ) (line : Line) (before : Option BearerConfig) (config : BearerConfig)
-    → adds_one lcid line ≡ false → config_by lcid line before ≡ Some config → before ≡ Some config
-unchanged lcid (lines.Bearer c options) before config free e =
-    sym (ap (λ (b : Bool). if b then Some c else before) free) ∙ e
-unchanged lcid line before config free e = e
-
-stays_there : (side : Side) (lcid : ℕ) (past : List Group) (g : Group) (config : BearerConfig) → IsRight past g
-    → KeepsOrder past → adds_one lcid g.line ≡ false → config_of lcid (g ∷ past) ≡ Some config
-    → (config_of lcid past ≡ Some config → IsThere side lcid past config) → IsThere side lcid (g ∷ past) config
-stays_there side lcid past g config right order free e rest =
-    goes_there side lcid past g config right order free
-    (rest (unchanged lcid g.line (config_of lcid past) config free e))
-
-pub record AddsOne (lcid : ℕ) (line : Line) : Type 0 where
-  pub config : BearerConfig
-  pub options : _
-  pub line_is : line ≡ lines.Bearer config options
-  pub lcid_is : config.channel.lcid ≡ lcid
-
-pub adds_it : (lcid : ℕ) (line : Line) → adds_one lcid line ≡ true → AddsOne lcid line
-adds_it lcid (lines.Bearer config options) e =
-    record { config = config; options = options; line_is = refl; lcid_is = same_lcid config.channel.lcid lcid e }
-adds_it lcid line e = absurd cc
-
-there_by : (b : Bool) (side : Side) (lcid : ℕ) (past : List Group) (g : Group) (config : BearerConfig)
-    → adds_one lcid g.line ≡ b → IsRight past g → KeepsOrder past → wants_keys config.kind ≡ true
-    → config_of lcid (g ∷ past) ≡ Some config
-    → (config_of lcid past ≡ Some config → IsThere side lcid past config) → IsThere side lcid (g ∷ past) config
-there_by false side lcid past g config is right order wants e rest =
-    stays_there side lcid past g config right order is e rest
-there_by true side lcid past g config is right order wants e rest =
-    let a = adds_it lcid g.line is in
-    let taken : config_by lcid (lines.Bearer a.config a.options) (config_of lcid past) ≡ Some a.config =
-    ap (λ (b : Bool). if b then Some a.config else config_of lcid past) (sym (ap (adds_one lcid) a.line_is) ∙ is) in
-    let some : Some a.config ≡ Some config =
-    sym taken ∙ ap (λ (line : Line). config_by lcid line (config_of lcid past)) (sym a.line_is) ∙ e in
-    let same : a.config ≡ config = cc in
-    subst (λ (c : BearerConfig). IsThere side lcid (g ∷ past) c) same
-    (subst (λ (l : ℕ). IsThere side l (g ∷ past) a.config) a.lcid_is
-    (begin_there side past g a.config a.options a.line_is right order
-    (ap (λ (c : BearerConfig). wants_keys c.kind) same ∙ wants)))
-
 pub is_there : (side : Side) (lcid : ℕ) (past : List Group) (config : BearerConfig) → KeepsOrder past
     → wants_keys config.kind ≡ true → config_of lcid past ≡ Some config → IsThere side lcid past config
-is_there side lcid [] config order wants e = absurd cc
-is_there side lcid (g ∷ past) config (right, order) wants e =
-    there_by (adds_one lcid g.line) side lcid past g config refl right order wants e
-    (is_there side lcid past config order wants)
+is_there side lcid past config order wants e =
+    behind_all (λ l c groups. IsThere side l groups c) (λ c. wants_keys c.kind ≡ true)
+    (λ groups g c options right keeps want.
+    begin_there side groups (record g { line = lines.Bearer c options }) c options refl right keeps want)
+    (λ l c groups g right keeps free before t. goes_there side l groups g c right keeps free t) lcid past config order
+    wants e
 
 -- ---- configurations
 
@@ -450,20 +412,9 @@ pub record IsConfigured (lcid : ℕ) (config : BearerConfig) : Type 0 where
   pub lcid_is : config.channel.lcid ≡ lcid
   pub in_range : IsConfig config
 
-configured_by : (lcid : ℕ) (line : Line) (before : Option BearerConfig) (config : BearerConfig) → IsInRange line
-    → config_by lcid line before ≡ Some config → (before ≡ Some config → IsConfigured lcid config)
-    → IsConfigured lcid config
-configured_by lcid (lines.Bearer c options) before config fits e rest = elim (cases_Bool (c.channel.lcid == lcid)) [
-  | inl is ↦
-      let some : Some c ≡ Some config = sym (ap (λ (b : Bool). if b then Some c else before) is) ∙ e in
-      let same : c ≡ config = cc in
-      subst (IsConfigured lcid) same (record { lcid_is = same_lcid c.channel.lcid lcid is; in_range = fits })
-  | inr is ↦ rest (sym (ap (λ (b : Bool). if b then Some c else before) is) ∙ e)
-]
-configured_by lcid line before config fits e rest = rest e
-
 pub configured : (lcid : ℕ) (past : List Group) (config : BearerConfig) → KeepsOrder past
     → config_of lcid past ≡ Some config → IsConfigured lcid config
-configured lcid [] config order e = absurd cc
-configured lcid (g ∷ past) config (right, order) e =
-    configured_by lcid g.line (config_of lcid past) config right.in_range e (configured lcid past config order)
+configured lcid past config order e =
+    behind_all (λ l c groups. IsConfigured l c) (λ c. Unit {0})
+    (λ groups g c options right keeps any. record { lcid_is = refl; in_range = right.in_range })
+    (λ l c groups g right keeps free before h. h) lcid past config order tt e

@@ -1,13 +1,8 @@
 -- Behind the groups of every journal the data PDUs that are written carry octets of their own numbers.
-use Rattle.std.proofs.Common.{◌≡◌, ℕ, Bool, true, false, if◌then◌else◌, Some, List, [], ◌∷◌, ◌++◌, refl, ap}
+use Rattle.std.proofs.Common.{◌≡◌, ℕ, false, Some, List, [], ◌∷◌, ◌++◌, refl, ap}
 use Rattle.std.proofs.Common.{sym, subst, ◌∙◌}
-use Rattle.air_link.specs.Lines.{bears}
 use Rattle.air_link.specs.Link.{end_of}
-use Rattle.air_record.specs.declared.line.Line.{Line}
-use Rattle.air_record.specs.declared.line.Line.TheVariants as lines
 use Rattle.air_record.specs.declared.record.Record.{Record}
-use Rattle.air_run.specs.Playing.{keys_or_none, acted}
-use Rattle.air_run.specs.Rules.{accepted}
 use Rattle.air_run.specs.Run.{behind_line}
 use Rattle.air_text.specs.Groups.{Group}
 use Rattle.bearer.specs.Acknowledged.State.{fresh as fresh_am}
@@ -18,28 +13,23 @@ use Rattle.l2_node.specs.End.{End}
 use Rattle.l2_types.specs.declared.channel.Kind.{Kind}
 use Rattle.l2_types.specs.declared.channel.Kind.TheVariants.{Am}
 use Rattle.l2_types.specs.declared.side.Side.{Side}
-use Rattle.l2_types.specs.declared.side.Side.TheVariants.{Nb, Ue}
 use Rattle.pdcp_pdu.specs.declared.PdcpKind.TheVariants.{Am as AmKind}
 use Rattle.law_deliver.specs.AmChannel.Delivery.{HasBegun}
 use Rattle.law_deliver.specs.AmChannel.Lives.{lives, end_at}
 use Rattle.law_deliver.specs.AmFlow.Air.{Air, outset}
 use Rattle.law_deliver.proofs.AmChannel.Delivery.{stands_so}
 use Rattle.law_words.specs.Arrivals.{AccountEntry, Account, no_account, account}
-use Rattle.prioritise.proofs.ChannelLemmas.{both_false}
 use Rattle.promises.specs.Arrival.{entries_in, entries_ended, entries_from}
-use Rattle.promises.specs.Configs.{config_by, config_of}
+use Rattle.promises.specs.Configs.{config_of}
 use Rattle.promises.specs.OwnPdus.{AreOwn, PdusAreOwn}
 use Rattle.law_run.specs.Order.{state_behind, IsRight, KeepsOrder}
 use Rattle.law_run.specs.TwoEnds.On.{IsOn}
 use Rattle.law_run.proofs.AnyAir.{at_end, line_plays}
-use Rattle.law_run.proofs.Delivering.{is_first, at_each}
-use Rattle.law_run.proofs.Early.{is_early}
+use Rattle.law_run.proofs.BearerWalk.{adds_one, Comes, comes, behind_all}
 use Rattle.law_run.proofs.OwnPdus.Ends.{OwnsAt, OwnTo, hears_all, steps_to, own_then, account_then}
 use Rattle.law_run.proofs.OwnPdus.Sender.{start_owns}
 use Rattle.law_run.proofs.Past.{behind, link_behind}
-use Rattle.law_run.proofs.Texts.{adds_one, adds_it, unchanged}
 use Rattle.law_run.proofs.TwoEnds.Coming.{same_on}
-use Rattle.law_run.proofs.TwoEnds.Lives.{channels_begin}
 
 abbrev told : ℕ → ℕ → Side → List Group → Account
 told bits l from past = account (entries_from bits l from past) no_account
@@ -93,64 +83,27 @@ fresh_at c keys side e kind h = record {
   owns = start_owns c.tx;
 }
 
-begin_by : (bits : ℕ) (from : Side) (past : List Group) (g : Group) (c : BearerConfig) (options : _) → c.kind ≡ Am
-    → IsRight past (record g { line = lines.Bearer c options }) → KeepsOrder past
-    → Owning c.channel.lcid bits from (record g { line = lines.Bearer c options } ∷ past)
-unfolding acted accepted bears
-begin_by bits from past g c options kind right order =
-    let l = c.channel.lcid in
-    let r = (state_behind past).rules in
-    let k = link_behind past in
-    let keys = keys_or_none r.keys in
-    let f = is_first c options r k right.allowed in
-    let here = both_false _ _ f.none in
-    let all : List Group = record g { line = lines.Bearer c options } ∷ past in
-    let now = is_early all (right, order) f.early in
-    let rest = (is_early past order f.early).rest in
-    let there = link_behind all in
-    let begun = at_each (λ s. HasBegun s l c keys (end_of s there))
-    (channels_begin c keys k right.in_range rest Nb here.0) (channels_begin c keys k right.in_range rest Ue here.1)
-    from in
-    let none = sym (now.none_happened bits l from) in
+begins : (bits : ℕ) (from : Side) (past : List Group) (c : BearerConfig) → Comes c past → c.kind ≡ Am
+    → Owning c.channel.lcid bits from past
+begins bits from past c x kind =
+    let there = link_behind past in
+    let none = sym (x.early.none_happened bits c.channel.lcid from) in
     record {
       own = subst (λ (hs : List AccountEntry). AreOwn no_account hs) none tt;
       air = outset there.nb there.ue;
-      on = now.rest;
-      at = subst (λ (hs : List AccountEntry). OwnsAt from l (account hs no_account).rlc.fields (end_of from there)) none
-          (fresh_at c keys from (end_of from there) kind begun);
+      on = x.early.rest;
+      at = subst (λ (hs : List AccountEntry). OwnsAt from c.channel.lcid (account hs no_account).rlc.fields
+          (end_of from there)) none (fresh_at c x.keys from (end_of from there) kind (x.begun from));
     }
-
-begins : (bits : ℕ) (from : Side) (past : List Group) (g : Group) (c : BearerConfig) (options : _)
-    → g.line ≡ lines.Bearer c options → c.kind ≡ Am → IsRight past g → KeepsOrder past
-    → Owning c.channel.lcid bits from (g ∷ past)
-begins bits from past g c options is kind right order =
-    subst (λ (line : Line). Owning c.channel.lcid bits from (record g { line = line } ∷ past)) (sym is)
-    (begin_by bits from past g c options kind
-    (subst (λ (line : Line). IsRight past (record g { line = line })) is right) order)
 
 -- ---- behind all groups
 
-owning_by : (b : Bool) (l bits : ℕ) (from : Side) (past : List Group) (g : Group) (c : BearerConfig)
-    → adds_one l g.line ≡ b → IsRight past g → KeepsOrder past → config_of l (g ∷ past) ≡ Some c → c.kind ≡ Am
-    → (config_of l past ≡ Some c → Owning l bits from past) → Owning l bits from (g ∷ past)
-owning_by false l bits from past g c is right order e kind rest =
-    goes_on l bits from past g right order is (rest (unchanged l g.line (config_of l past) c is e))
-owning_by true l bits from past g c is right order e kind rest =
-    let a = adds_it l g.line is in
-    let taken : config_by l (lines.Bearer a.config a.options) (config_of l past) ≡ Some a.config =
-    ap (λ (b : Bool). if b then Some a.config else config_of l past) (sym (ap (adds_one l) a.line_is) ∙ is) in
-    let some : Some a.config ≡ Some c =
-    sym taken ∙ ap (λ (line : Line). config_by l line (config_of l past)) (sym a.line_is) ∙ e in
-    let same : a.config ≡ c = cc in
-    subst (λ (n : ℕ). Owning n bits from (g ∷ past)) a.lcid_is
-    (begins bits from past g a.config a.options a.line_is (ap (λ (d : BearerConfig). d.kind) same ∙ kind) right order)
-
 owning : (l bits : ℕ) (from : Side) (past : List Group) (c : BearerConfig) → KeepsOrder past
     → config_of l past ≡ Some c → c.kind ≡ Am → Owning l bits from past
-owning l bits from [] c order e kind = absurd cc
-owning l bits from (g ∷ past) c (right, order) e kind =
-    owning_by (adds_one l g.line) l bits from past g c refl right order e kind
-    (λ is. owning l bits from past c order is kind)
+owning l bits from past c order e kind =
+    behind_all (λ n d groups. Owning n bits from groups) (λ d. d.kind ≡ Am)
+    (λ groups g d options right keeps kind'. begins bits from _ d (comes groups g d options right keeps) kind')
+    (λ n d groups g right keeps other before h. goes_on n bits from groups g right keeps other h) l past c order kind e
 
 pub pdus_are_own : (past : List Group) → KeepsOrder past → PdusAreOwn past
 pdus_are_own [] order = tt

@@ -1,17 +1,15 @@
 -- Behind the groups of every journal the SDUs of acknowledged data that leave their queue wait as they leave it.
-use Rattle.std.proofs.Common.{◌≡◌, ◌≤◌, ℕ, ◌+◌, Bool, true, false, if◌then◌else◌, Option, Some, List, [], ◌∷◌}
+use Rattle.std.proofs.Common.{◌≡◌, ◌≤◌, ℕ, ◌+◌, Bool, true, false, Option, Some, List, [], ◌∷◌}
 use Rattle.std.proofs.Common.{◌++◌, map, length, append-nil, refl, ap, sym, subst, ◌∙◌, arith, inl}
 use Rattle.std.specs.List.{flat_map}
 use Rattle.std.proofs.lemmas.Grind.{flat_map-append}
 use Rattle.std.proofs.lemmas.List.{length-append}
-use Rattle.air_link.specs.Lines.{bears}
 use Rattle.air_link.specs.Link.{Link, end_of}
 use Rattle.air_record.specs.declared.line.Line.{Line}
 use Rattle.air_record.specs.declared.line.Line.TheVariants as lines
 use Rattle.air_record.specs.declared.record.Record.{Record}
 use Rattle.air_record.specs.declared.record.Record.TheVariants as records
-use Rattle.air_run.specs.Playing.{keys_or_none, acted, played}
-use Rattle.air_run.specs.Rules.{accepted}
+use Rattle.air_run.specs.Playing.{acted, played}
 use Rattle.air_run.specs.Run.{behind_line}
 use Rattle.air_text.specs.Groups.{Group, history}
 use Rattle.air_text.specs.Ranges.{IsInRange}
@@ -40,10 +38,8 @@ use Rattle.pdcp_pdu.specs.declared.PdcpKind.TheVariants.{Am as AmKind}
 use Rattle.pdcp_sec.specs.Protection.{Protection, protection_of}
 use Rattle.pdcp_tx.specs.State.{State as Sending, start}
 use Rattle.pdcp_tx_store.specs.Waiting.{Waits}
-use Rattle.prioritise.proofs.ChannelLemmas.{both_false}
 use Rattle.promises.specs.Air.{ttis}
 use Rattle.promises.specs.Blocks.{kinds}
-use Rattle.promises.specs.Configs.{config_by, config_of}
 use Rattle.promises.specs.Flows.{handed_in, looped_at, submitted}
 use Rattle.promises.specs.Order.{Channels}
 use Rattle.promises.specs.Parts.{part_of_line}
@@ -56,13 +52,10 @@ use Rattle.law_run.specs.TwoEnds.On.{IsOn}
 use Rattle.law_run.proofs.AnyAir.{line_plays}
 use Rattle.law_run.proofs.AnyCalls.Going.{told_both}
 use Rattle.law_run.proofs.AnyCalls.Standing.{Ready}
-use Rattle.law_run.proofs.Delivering.{is_first, at_each}
-use Rattle.law_run.proofs.Early.{is_early}
+use Rattle.law_run.proofs.BearerWalk.{adds_one, comes, behind_all}
 use Rattle.law_run.proofs.Past.{behind, link_behind}
 use Rattle.law_run.proofs.Standing.{channels_behind, lines_tell}
-use Rattle.law_run.proofs.Texts.{adds_one, adds_it, unchanged}
 use Rattle.law_run.proofs.TwoEnds.Coming.{same_on}
-use Rattle.law_run.proofs.TwoEnds.Lives.{channels_begin}
 use Rattle.law_run.proofs.WaitingSdus.Calm.{IsCalm, passes, line_calm}
 use Rattle.law_run.proofs.WaitingSdus.Counting.{Counted, each_may, counted_quiet, counted_end, left_in, gone}
 use Rattle.law_run.proofs.WaitingSdus.Counting.{next_behind, gone_both, InTurn, after_is, behind_records, as_queue}
@@ -139,7 +132,13 @@ module _ (kind : PdcpKind) (p : Protection) (first bits l : ℕ) (from : Side) (
 
 -- ---- a channel, behind groups
 
+-- in the newest each SDU that leaves waits
+abbrev Newest : ℕ → ℕ → Side → List Group → Type 0
+Newest first l from [] = Unit {0}
+Newest first l from (g ∷ past) = EachMayLeave from l first g.events (with_line from l g (queue from l past))
+
 record Waiting (first bits l : ℕ) (from : Side) (past : List Group) : Type 0 where
+  each : Newest first l from past
   kind : PdcpKind
   guard : Protection
   air : Air
@@ -156,12 +155,8 @@ all_ready past order =
     }
 
 -- a line since
-record Since (first bits l : ℕ) (from : Side) (past : List Group) (g : Group) : Type 0 where
-  each : EachMayLeave from l first g.events (with_line from l g (queue from l past))
-  waiting : Waiting first bits l from (g ∷ past)
-
 goes_on : (first bits l : ℕ) (from : Side) (past : List Group) (g : Group) → IsRight past g → KeepsOrder past
-    → adds_one l g.line ≡ false → Waiting first bits l from past → Since first bits l from past g
+    → adds_one l g.line ≡ false → Waiting first bits l from past → Waiting first bits l from (g ∷ past)
 goes_on first bits l from past g right order other h =
     let k = link_behind past in
     let keys = (state_behind past).rules.keys in
@@ -180,17 +175,15 @@ goes_on first bits l from past g right order other h =
     let start' = λ (told : List Record). with_handed (handed_in from l part told) q in
     record {
       each = subst (λ (told : List Record). EachMayLeave from l first told (start' told)) (sym right.events_are) each;
-      waiting = record {
-        kind = h.kind;
-        guard = h.guard;
-        air = lives x.steps x.first;
-        on = same_on m (link_behind (g ∷ past)) (lives x.steps x.first) refl refl refl x.on;
-        fits = fits_as h.kind h.guard first bits l from (behind_records from l m.out (with_handed handed q))
-            (queue from l (g ∷ past)) (end_of from m) (end_of from (link_behind (g ∷ past)))
-            (sym (after_is from l m.out (with_handed handed q))
-            ∙ ap (λ (told : List Record). after_records from l told (start' told)) (sym right.events_are))
-            (same_end from m) w.fits;
-      };
+      kind = h.kind;
+      guard = h.guard;
+      air = lives x.steps x.first;
+      on = same_on m (link_behind (g ∷ past)) (lives x.steps x.first) refl refl refl x.on;
+      fits = fits_as h.kind h.guard first bits l from (behind_records from l m.out (with_handed handed q))
+          (queue from l (g ∷ past)) (end_of from m) (end_of from (link_behind (g ∷ past)))
+          (sym (after_is from l m.out (with_handed handed q))
+          ∙ ap (λ (told : List Record). after_records from l told (start' told)) (sym right.events_are))
+          (same_end from m) w.fits;
     }
 
 -- ---- the line in which its bearers come
@@ -263,87 +256,46 @@ module _ (c : BearerConfig) (keys : Keys) (from : Side) where
         (ap (λ (s : Sending). s.waiting) first_sender ∙ start_waits);
   }
 
-begin_by : (from : Side) (past : List Group) (g : Group) (c : BearerConfig) (options : _) → c.kind ≡ Am
-    → IsRight past (record g { line = lines.Bearer c options }) → KeepsOrder past
+begins : (from : Side) (past : List Group) (g : Group) (c : BearerConfig) (options : _)
+    → IsRight past (record g { line = lines.Bearer c options }) → KeepsOrder past → c.kind ≡ Am
     → Waiting c.first c.pdcp_bits c.channel.lcid from (record g { line = lines.Bearer c options } ∷ past)
-unfolding acted accepted bears
-begin_by from past g c options kind right order =
+begins from past g c options right order kind =
     let l = c.channel.lcid in
-    let r = (state_behind past).rules in
-    let k = link_behind past in
-    let keys = keys_or_none r.keys in
-    let f = is_first c options r k right.allowed in
-    let here = both_false _ _ f.none in
     let all : List Group = record g { line = lines.Bearer c options } ∷ past in
-    let now = is_early all (right, order) f.early in
-    let rest = (is_early past order f.early).rest in
+    let x = comes past g c options right order in
     let there = link_behind all in
-    let begun = at_each (λ s. HasBegun s l c keys (end_of s there))
-    (channels_begin c keys k right.in_range rest Nb here.0) (channels_begin c keys k right.in_range rest Ue here.1)
-    from in
     let none : queue from l all ≡ queue_of [] 0 =
     queue_is from l all
     ∙ as_queue (flat_map (leaving_in l) (events_of from (history all))) [] (length (submitted from l all)) 0
-    (ap (flat_map (leaving_in l)) (now.none_told from))
-    (ap (λ (xs : List (List ℕ)). length xs) (now.none_submitted from l)) in
+    (ap (flat_map (leaving_in l)) (x.early.none_told from))
+    (ap (λ (xs : List (List ℕ)). length xs) (x.early.none_submitted from l)) in
     record {
+      each = calm_each from l c.first g.events
+          (with_line from l (record g { line = lines.Bearer c options }) (queue from l past))
+          (line_calm l from (ttis past) (kinds past) (λ side. channels past) (lines.Bearer c options) refl g.events
+          (lines_tell all (right, order)).0);
       kind = AmKind c.pdcp_bits;
-      guard = guard_of c keys from;
+      guard = guard_of c x.keys from;
       air = outset there.nb there.ue;
-      on = now.rest;
+      on = x.early.rest;
       fits = subst
-          (λ (q : Queue). Fits (AmKind c.pdcp_bits) (guard_of c keys from) c.first c.pdcp_bits l from q
+          (λ (q : Queue). Fits (AmKind c.pdcp_bits) (guard_of c x.keys from) c.first c.pdcp_bits l from q
           (end_of from there)) (sym none)
-          (record { waits = 0; at = begins_queued c keys from (end_of from there) kind begun; count = refl });
+          (record {
+            waits = 0;
+            at = begins_queued c x.keys from (end_of from there) kind (x.begun from);
+            count = refl;
+          });
     }
-
-begins : (from : Side) (past : List Group) (g : Group) (c : BearerConfig) (options : _)
-    → g.line ≡ lines.Bearer c options → c.kind ≡ Am → IsRight past g → KeepsOrder past
-    → Waiting c.first c.pdcp_bits c.channel.lcid from (g ∷ past)
-begins from past g c options is kind right order =
-    subst (λ (line : Line). Waiting c.first c.pdcp_bits c.channel.lcid from (record g { line = line } ∷ past)) (sym is)
-    (begin_by from past g c options kind
-    (subst (λ (line : Line). IsRight past (record g { line = line })) is right) order)
 
 -- ---- behind all groups
-
-waiting_by : (b : Bool) (l : ℕ) (from : Side) (past : List Group) (g : Group) (c : BearerConfig)
-    → adds_one l g.line ≡ b → IsRight past g → KeepsOrder past → config_of l (g ∷ past) ≡ Some c → c.kind ≡ Am
-    → (config_of l past ≡ Some c → Waiting c.first c.pdcp_bits l from past)
-    → Since c.first c.pdcp_bits l from past g
-waiting_by false l from past g c is right order e kind rest =
-    goes_on c.first c.pdcp_bits l from past g right order is
-    (rest (unchanged l g.line (config_of l past) c is e))
-waiting_by true l from past g c is right order e kind rest =
-    let a = adds_it l g.line is in
-    let taken : config_by l (lines.Bearer a.config a.options) (config_of l past) ≡ Some a.config =
-    ap (λ (b : Bool). if b then Some a.config else config_of l past) (sym (ap (adds_one l) a.line_is) ∙ is) in
-    let some : Some a.config ≡ Some c =
-    sym taken ∙ ap (λ (line : Line). config_by l line (config_of l past)) (sym a.line_is) ∙ e in
-    let same : a.config ≡ c = cc in
-    let begun = begins from past g a.config a.options a.line_is (ap (λ (d : BearerConfig). d.kind) same ∙ kind) right
-    order in
-    let at_c = subst (λ (d : BearerConfig). Waiting d.first d.pdcp_bits a.config.channel.lcid from (g ∷ past)) same
-    begun in
-    record {
-      each = calm_each from l c.first g.events (with_line from l g (queue from l past))
-          (line_calm l from (ttis past) (kinds past) (λ side. channels past) g.line (ap (passes l) a.line_is) g.events
-          (lines_tell (g ∷ past) (right, order)).0);
-      waiting = subst (λ (n : ℕ). Waiting c.first c.pdcp_bits n from (g ∷ past)) a.lcid_is at_c;
-    }
-
-waiting : (l : ℕ) (from : Side) (past : List Group) (c : BearerConfig) → KeepsOrder past → config_of l past ≡ Some c
-    → c.kind ≡ Am → Waiting c.first c.pdcp_bits l from past
-waiting l from [] c order e kind = absurd cc
-waiting l from (g ∷ past) c (right, order) e kind =
-    (waiting_by (adds_one l g.line) l from past g c refl right order e kind
-    (λ is. waiting l from past c order is kind)).waiting
 
 pub sdus_wait : (past : List Group) → KeepsOrder past → SdusWait past
 sdus_wait [] order = tt
 sdus_wait (g ∷ past) (right, order) = (
   λ from lcid config is kind.
-      (waiting_by (adds_one lcid g.line) lcid from past g config refl right order is kind
-      (λ e. waiting lcid from past config order e kind)).each,
+      (behind_all (λ l c groups. Waiting c.first c.pdcp_bits l from groups) (λ c. c.kind ≡ Am) (begins from)
+      (λ l c groups h at keeps other before w. goes_on c.first c.pdcp_bits l from groups h at keeps other w) lcid
+      (g ∷ past) config (right, order) kind is).each,
   sdus_wait past order,
 )
