@@ -32,6 +32,7 @@ pub mod Meeting
 pub mod Early
 pub mod Quiet
 pub mod Still
+pub mod KeptByCalls
 pub mod Failing
 pub mod Failed
 pub mod Flowing

@@ -1,7 +1,7 @@
 -- What an acknowledged sender tells of, by its window: new PDUs have the numbers from VT(S) on, and one that is sent
 -- again has a number of the window (TS 36.322 5.1.3.1.1, 5.2.1, 7.1).
 use Rattle.std.proofs.Common.{◌≡◌, ℕ, ◌≤◌, ◌==◌, Bool, true, false, cond, if◌then◌else◌, List, [], ◌∷◌}
-use Rattle.std.proofs.Common.{◌++◌, length, refl, ap, sym, subst, ◌∙◌, arith, append-nil, append_assoc}
+use Rattle.std.proofs.Common.{◌++◌, length, refl, ap, sym, subst, ◌∙◌, arith}
 use Rattle.std.proofs.lemmas.Bool.Decides.{nat_tests}
 use Rattle.bearer_types.specs.declared.event.Event.{Event}
 use Rattle.bearer_types.specs.declared.event.Event.TheVariants as events
@@ -113,35 +113,6 @@ writes_then a b c xs ys p q fits =
       next_is = y.next_is ∙ ap (λ (n : ℕ). number_over n ys) x.next_is ∙ sym (over_then (next a) xs ys);
       fits = y.fits;
     }
-
--- behind what has been told
-pub record GoesBy (a b : TxWindow) (told all : List Event) : Type 0 where
-  pub more : List Event
-  pub all_are : all ≡ told ++ more
-  pub writes : Writes a more b
-
-pub goes_by : (a b : TxWindow) (told more : List Event) → Writes a more b → GoesBy a b told (told ++ more)
-goes_by a b told more p = record { more = more; all_are = refl; writes = p }
-
-pub goes_still : (w : TxWindow) (told more : List Event) → tell_sender more ≡ false → GoesBy w w told (told ++ more)
-goes_still w told more h = goes_by w w told more (writes_still w more h)
-
-pub goes_nowhere : (w : TxWindow) (told : List Event) → GoesBy w w told told
-goes_nowhere w told = record {
-  more = [];
-  all_are = sym (append-nil told);
-  writes = writes_still w [] refl;
-}
-
-pub goes_then : (a b c : TxWindow) (xs ys zs : List Event) → GoesBy a b xs ys → GoesBy b c ys zs → GoesBy a c xs zs
-goes_then a b c xs ys zs p q = record {
-  more = p.more ++ q.more;
-  all_are = q.all_are ∙ ap (λ (es : List Event). es ++ q.more) p.all_are ∙ append_assoc xs p.more q.more;
-  writes = writes_then a b c p.more q.more p.writes q.writes;
-}
-
-pub goes_from_nothing : (a b : TxWindow) (all : List Event) → GoesBy a b [] all → Writes a all b
-goes_from_nothing a b all p = subst (λ (es : List Event). Writes a es b) (sym p.all_are) p.writes
 
 -- ---- in the promise's words: of all that is told, what is told of the channel
 

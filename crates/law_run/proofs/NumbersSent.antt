@@ -93,7 +93,7 @@ module _ (side : Side) (l : ℕ) where
       let told = tells_over l (Am f.bearer) own in
       let told_is : told_on l (told_over cs e) ≡ told =
       t.told_is ∙ ap (λ (x : Flow). tells_over l x own) f.flow_is in
-      let w = n.writes f.fits in
+      let w = n.kept f.fits in
       record {
         bearer = n.bearer;
         flow_is = t.bearer_is ∙ ap (λ (x : Flow). after_all x own) f.flow_is ∙ n.flow_is;
@@ -187,7 +187,7 @@ module _ (side : Side) (l : ℕ) (past : List Group) (g : Group) (right : IsRigh
       over_tells side l here calls stands k.by.given (in_life l calls none still) in
       let own = calls_over l calls here in
       let n = calls_number l s.bearer own in
-      let w = n.writes s.fits in
+      let w = n.kept s.fits in
       let tells : told ≡ tells_over l (Am s.bearer) own =
       told_is ∙ t.told_is ∙ ap (λ (x : Flow). tells_over l x own) s.flow_is in
       let at = next s.bearer.tx.window in

@@ -1,6 +1,6 @@
 -- What a sender tells that may have failed: of no data PDU behind a failure, and of no other failure.
 use Rattle.std.proofs.Common.{◌≡◌, Bool, true, false, ◌||◌, if◌then◌else◌, List, [], ◌∷◌, ◌++◌, refl, ap}
-use Rattle.std.proofs.Common.{append-nil, append_assoc, sym, subst, ◌∙◌}
+use Rattle.std.proofs.Common.{sym, subst, ◌∙◌}
 use Rattle.std.specs.List.{filter, list_any}
 use Rattle.bearer_types.specs.declared.event.Event.{Event}
 use Rattle.bearer_types.specs.declared.event.Event.TheVariants as events
@@ -103,38 +103,6 @@ runs_then a b c xs ys p q = record {
 
 pub runs_as : (a b c d : Bool) (told : List Event) → a ≡ c → b ≡ d → Runs c told d → Runs a told b
 runs_as a b c d told e f p = subst (λ (x : Bool). Runs x told b) (sym e) (subst (λ (x : Bool). Runs c told x) (sym f) p)
-
--- ---- runs behind what has been told
-
-pub record GoesBy (before after : Bool) (told all : List Event) : Type 0 where
-  pub more : List Event
-  pub all_are : all ≡ told ++ more
-  pub runs : Runs before more after
-
-pub goes_by : (before after : Bool) (told more : List Event) → Runs before more after
-    → GoesBy before after told (told ++ more)
-goes_by before after told more p = record { more = more; all_are = refl; runs = p }
-
-pub goes_nowhere : (failed : Bool) (told : List Event) → GoesBy failed failed told told
-goes_nowhere failed told = record {
-  more = [];
-  all_are = sym (append-nil told);
-  runs = runs_still failed [] refl;
-}
-
-pub goes_then : (a b c : Bool) (xs ys zs : List Event) → GoesBy a b xs ys → GoesBy b c ys zs → GoesBy a c xs zs
-goes_then a b c xs ys zs p q = record {
-  more = p.more ++ q.more;
-  all_are = q.all_are ∙ ap (λ (es : List Event). es ++ q.more) p.all_are ∙ append_assoc xs p.more q.more;
-  runs = runs_then a b c p.more q.more p.runs q.runs;
-}
-
-pub goes_as : {before after : Bool} {told all : List Event} → after ≡ before → GoesBy before before told all
-    → GoesBy before after told all
-goes_as {before} {after} {told} {all} e p = subst (λ (b : Bool). GoesBy before b told all) (sym e) p
-
-pub goes_from_nothing : (a b : Bool) (all : List Event) → GoesBy a b [] all → Runs a all b
-goes_from_nothing a b all p = subst (λ (es : List Event). Runs a es b) (sym p.all_are) p.runs
 
 -- ---- in the promise's words
 
