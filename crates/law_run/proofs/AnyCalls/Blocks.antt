@@ -11,7 +11,7 @@ use Rattle.harq.specs.declared.sender.Order.{Order}
 use Rattle.harq.specs.declared.sender.Order.TheVariants as orders
 use Rattle.harq.specs.declared.sender.Visit.{Visit}
 use Rattle.harq.specs.declared.sender.Visit.TheVariants.{New, Resend, Silent}
-use Rattle.harq.specs.Sending.{Block, Sending, fresh as fresh_sender, process_at, resend_or, version_of, visit_answer}
+use Rattle.harq.specs.Sending.{Block, Sending, fresh as fresh_sender, process_at, resend_or, visit_answer}
 use Rattle.harq.specs.Sending.{after_visit, after_feedback}
 use Rattle.l2_node.specs.Building.{IsEnough, visit, visited, built, built_by, loaded, building}
 use Rattle.l2_node.specs.End.{End, fresh, with_bearer, reset, with_visits}

@@ -1,6 +1,6 @@
 -- What is told of a TTI, in parts: the timers, of which only the terminal's tell of SDUs that leave its queue; what the
 -- test loop returns, among what the terminal hears; and what the terminal builds.
-use Rattle.std.proofs.Common.{◌≡◌, ◌≤◌, ℕ, Bool, true, false, if◌then◌else◌, List, [], ◌∷◌, ◌++◌, map, append-nil, refl}
+use Rattle.std.proofs.Common.{◌≡◌, ◌≤◌, ℕ, Bool, true, false, List, [], ◌∷◌, ◌++◌, map, append-nil, refl}
 use Rattle.std.proofs.Common.{append_assoc, ap, sym, subst, ◌∙◌}
 use Rattle.air_link.specs.Draining.{drain_tti}
 use Rattle.air_link.specs.Link.{Link, says}
