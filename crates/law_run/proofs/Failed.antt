@@ -37,6 +37,7 @@ use Rattle.promises.specs.Drained.{failed}
 use Rattle.promises.specs.Silent.{is_failure}
 use Rattle.law_run.specs.Order.{state_behind, IsRight, KeepsOrder}
 use Rattle.law_run.proofs.Counts.{goes}
+use Rattle.law_run.proofs.EmptyLists.{parts_empty}
 use Rattle.law_run.proofs.Failing.{calls_run, life_unfailed}
 use Rattle.law_run.proofs.Past.{link_behind}
 use Rattle.law_run.proofs.Quiet.{tell_failure}
@@ -45,10 +46,6 @@ use Rattle.law_run.proofs.BearerWalk.{adds_one}
 use Rattle.law_run.proofs.Texts.{moves_are, none_added}
 
 -- ---- what is told of a channel
-
-none_both : (xs ys : List ℕ) → xs ++ ys ≡ [] → (xs ≡ []) × (ys ≡ [])
-none_both [] ys e = (refl, e)
-none_both (x ∷ xs) ys e = absurd cc
 
 fail_by : (here : Bool) (e : Event) (sn : ℕ) (rest : List ℕ) (told : List Event)
     → (if here then sn ∷ [] else []) ++ rest ≡ [] → (rest ≡ [] → tell_failure told ≡ false)
@@ -107,7 +104,7 @@ module _ (side : Side) (l : ℕ) where
       → fails_on l (told_over cs e) ≡ [] → Unfailed l e → Unfailed l (run_end cs e)
   calls_go e [] s g none quiet unfailed = unfailed
   calls_go e (c ∷ cs) s g none quiet unfailed =
-      let parts = none_both (fails_on l (told_of e c)) (fails_on l (told_over cs (after e c)))
+      let parts = parts_empty (fails_on l (told_of e c)) (fails_on l (told_over cs (after e c)))
       (sym (flat_map-append (fails_in l) (told_of e c) (told_over cs (after e c))) ∙ quiet) in
       calls_go (after e c) cs (one_stands e c s g.0 none.0) g.1 none.1 parts.1
       (call_goes e c s (call_kind l c none.0) parts.0 unfailed)
@@ -127,7 +124,7 @@ module _ (side : Side) (l : ℕ) where
       → moves cs ≡ k ∷ [] → fails_on l (told_over cs e) ≡ [] → Unfailed l (run_end cs e)
   calls_move e [] k s g none one quiet = absurd cc
   calls_move e (c ∷ cs) k s g none one quiet =
-      let parts = none_both (fails_on l (told_of e c)) (fails_on l (told_over cs (after e c)))
+      let parts = parts_empty (fails_on l (told_of e c)) (fails_on l (told_over cs (after e c)))
       (sym (flat_map-append (fails_in l) (told_of e c) (told_over cs (after e c))) ∙ quiet) in
       moved_by e c cs k (call_kind l c none.0) s g none one parts.1
       (λ more. calls_move (after e c) cs k (one_stands e c s g.0 none.0) g.1 none.1 more parts.1)
@@ -169,7 +166,7 @@ module _ (side : Side) (l : ℕ) (past : List Group) (g : Group) (right : IsRigh
       calls_move side l here calls m.keys h.stands (goes side past g right order).by.given none
       (moves_are calls ∙ ap moves (goes side past g right order).lives_are ∙ m.moves_are) (sym told ∙ quiet)
   group_by false is quiet =
-      let parts = none_both (failed side l past) (fails_on l (events_of side g.events)) quiet in
+      let parts = parts_empty (failed side l past) (fails_on l (events_of side g.events)) quiet in
       calls_go side l here calls h.stands (goes side past g right order).by.given none (sym told ∙ parts.1)
       (h.unfailed parts.0)
 

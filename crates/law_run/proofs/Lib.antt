@@ -26,6 +26,7 @@ pub mod Playing
 pub mod Keys
 pub mod Counts
 pub mod Distinct
+pub mod EmptyLists
 pub mod BearerWalk
 pub mod Texts
 pub mod Meeting

@@ -46,13 +46,14 @@ use Rattle.rlc_am_tx_window.specs.Window.{next}
 use Rattle.law_run.specs.Order.{state_behind, IsRight, KeepsOrder}
 use Rattle.law_run.proofs.AnyCalls.Going.{told_both}
 use Rattle.law_run.proofs.Counts.{goes}
+use Rattle.law_run.proofs.EmptyLists.{parts_empty, empty_if}
 use Rattle.law_run.proofs.Failed.{call_kind, handed_over}
 use Rattle.law_run.proofs.Numbered.{Fits, AreNumbered, number_over, still_numbered, still_over}
 use Rattle.law_run.proofs.Numbered.{on_channel, next_over, numbers_then, next_then}
 use Rattle.law_run.proofs.Numbering.{calls_number}
 use Rattle.law_run.proofs.Past.{link_behind}
 use Rattle.law_run.proofs.Quiet.{tell_sender, any_both}
-use Rattle.law_run.proofs.Silent.{line_still, on_still, in_life, moves_none, no_events, since}
+use Rattle.law_run.proofs.Silent.{line_still, on_still, in_life, moves_none, since}
 use Rattle.law_run.proofs.Standing.{lines_tell}
 use Rattle.law_run.proofs.BearerWalk.{adds_one, Comes, comes, behind_all}
 use Rattle.law_run.proofs.Texts.{moves_are, none_added}
@@ -233,17 +234,13 @@ module _ (side : Side) (l : ℕ) (past : List Group) (g : Group) (right : IsRigh
 
 -- ---- as a bearer comes
 
-if_none : (b : Bool) (xs ys : List SentPdu) → xs ≡ [] → ys ≡ [] → (if b then [] else xs) ++ ys ≡ []
-if_none true xs ys p q = q
-if_none false xs ys p q = ap (λ (zs : List SentPdu). zs ++ ys) p ∙ q
-
 none_since : (side : Side) (past : List Group) → events_of side (history past) ≡ [] → sent_since side past ≡ []
 none_since side [] e = refl
 none_since side (g ∷ past) e =
-    let parts = no_events (events_of side (history past)) (events_of side g.events)
+    let parts = parts_empty (events_of side (history past)) (events_of side g.events)
     (sym (told_both side (history past) (records.Line g.number g.line ∷ g.events) (events_of side (history past))
     (events_of side g.events) refl refl) ∙ e) in
-    if_none (is_handover g.line) (sent_since side past) (sent_in side g.events) (none_since side past parts.0)
+    empty_if (is_handover g.line) (sent_since side past) (sent_in side g.events) (none_since side past parts.0)
     (ap sent_pdus parts.1)
 
 comes_first : (kind : Kind) (c : BearerConfig) (keys : Keys) (side : Side) → kind ≡ kinds.Am

@@ -21,6 +21,7 @@ use Rattle.promises.specs.Parts.{is_handover}
 use Rattle.promises.specs.Pdus.{carried}
 use Rattle.promises.specs.Records.{is_of_air, is_got, sent_last}
 use Rattle.promises.specs.Sequence.{passes_at, passes_in, passed_since}
+use Rattle.law_run.proofs.EmptyLists.{parts_empty}
 
 -- ---- of records
 
@@ -74,13 +75,9 @@ no_air_passes l from sent [] none = refl
 no_air_passes l from sent (one ∷ told) none =
     still_by (is_of_air one) l from sent one told refl none (no_air_passes l from (sent_last one sent) told)
 
-none_both : {A : Type 0} (xs ys : List A) → xs ++ ys ≡ [] → (xs ≡ []) × (ys ≡ [])
-none_both [] ys e = (refl, e)
-none_both (x ∷ xs) ys e = absurd cc
-
 pub none_behind : (xs ys : List Record) → filter is_of_air (xs ++ ys) ≡ [] → filter is_of_air ys ≡ []
 none_behind xs ys e =
-    (none_both (filter is_of_air xs) (filter is_of_air ys) (sym (filter-append is_of_air xs ys) ∙ e)).1
+    (parts_empty (filter is_of_air xs) (filter is_of_air ys) (sym (filter-append is_of_air xs ys) ∙ e)).1
 
 -- ---- of groups
 
@@ -113,8 +110,8 @@ pub none_passed : (bits l : ℕ) (from : Side) (past : List Group) → entries_f
 none_passed bits l from [] e = refl
 none_passed bits l from (g ∷ past) e =
     let tells = entries_in bits l from [] g.events in
-    let parts = none_both (entries_from bits l from past) (entries_ended g.line ++ tells) e in
-    let now = none_both (entries_ended g.line) tells parts.1 in
+    let parts = parts_empty (entries_from bits l from past) (entries_ended g.line ++ tells) e in
+    let now = parts_empty (entries_ended g.line) tells parts.1 in
     none_if (is_handover g.line) (passed_since l from past) (passes_in l from [] g.events)
     (none_passed bits l from past parts.0)
     (sym (tells_passes bits l from [] g.events) ∙ ap passes_of now.1)

@@ -36,6 +36,7 @@ use Rattle.law_node.specs.Calls.{Add, Move, after as after_call}
 use Rattle.law_node.specs.Holding.{flow}
 use Rattle.law_run.proofs.BearerWalk.{adds_one, is_first, at_each, behind_all}
 use Rattle.law_run.proofs.Early.{is_early}
+use Rattle.law_run.proofs.EmptyLists.{parts_empty, empty_if}
 use Rattle.law_run.proofs.Flowing.{Sdus, Happened, looped_then, PartLives, line_stays}
 use Rattle.law_run.proofs.Keys.{not_first, not_second, no_cause}
 use Rattle.law_run.proofs.Lives.{InOneLife, through_life}
@@ -227,22 +228,14 @@ moves_renewed l past g user rrc integrity right order d =
 
 -- ---- where nothing left or was submitted at all
 
-pub none_both : {A : Type 0} (xs ys : List A) → xs ++ ys ≡ [] → (xs ≡ []) × (ys ≡ [])
-none_both [] ys e = (refl, e)
-none_both (x ∷ xs) ys e = absurd cc
-
-pub if_none : {A : Type 0} (b : Bool) (xs ys : List A) → xs ≡ [] → ys ≡ [] → (if b then [] else xs) ++ ys ≡ []
-if_none true xs ys p q = q
-if_none false xs ys p q = ap (λ zs. zs ++ ys) p ∙ q
-
 pub none_submitted : (side : Side) (l : ℕ) (past : List Group) → submitted side l past ≡ []
     → submitted_since side l past ≡ []
 none_submitted side l [] e = refl
 none_submitted side l (g ∷ past) e =
     let parts =
-    none_both (submitted side l past) (handed_in side l (part_of_line g.line) g.events ++ looped_at side l g.events) e
+    parts_empty (submitted side l past) (handed_in side l (part_of_line g.line) g.events ++ looped_at side l g.events) e
     in
-    if_none (is_handover g.line) (submitted_since side l past)
+    empty_if (is_handover g.line) (submitted_since side l past)
     (handed_in side l (part_of_line g.line) g.events ++ looped_at side l g.events) (none_submitted side l past parts.0)
     parts.1
 
@@ -250,9 +243,9 @@ pub none_left : (side : Side) (l : ℕ) (past : List Group) → lengths_on l (ev
     → left_since side l past ≡ []
 none_left side l [] e = refl
 none_left side l (g ∷ past) e =
-    let parts = none_both (lengths_on l (events_of side (history past))) (lengths_on l (events_of side g.events))
+    let parts = parts_empty (lengths_on l (events_of side (history past))) (lengths_on l (events_of side g.events))
     (sym (left_then l side past g) ∙ e) in
-    if_none (is_handover g.line) (left_since side l past) (lengths_on l (events_of side g.events))
+    empty_if (is_handover g.line) (left_since side l past) (lengths_on l (events_of side g.events))
     (none_left side l past parts.0) parts.1
 
 -- ---- the line in which its bearers come

@@ -49,7 +49,7 @@ use Rattle.law_deliver.proofs.SrbChannel.Running.{Start, down, up, all_down, all
 use Rattle.law_deliver.proofs.SrbChannel.Running.{came_as, came_down, came_up}
 use Rattle.law_deliver.proofs.SrbChannel.Running.{none_lost_between, starts_first, starts_anew}
 use Rattle.law_deliver.specs.SrbDelivery.Arrival.{passes_of}
-use Rattle.law_run.proofs.Renewed.{IsRenewed, line_since, stays_renewed, kept_by, moves_renewed, none_both, if_none}
+use Rattle.law_run.proofs.Renewed.{IsRenewed, line_since, stays_renewed, kept_by, moves_renewed}
 use Rattle.law_run.proofs.Renewed.{begins_renewed, line_by, lives_behind}
 use Rattle.law_run.proofs.Passing.{tells_passes, no_air_passes, none_behind, none_passed, passed_stays, passed_line}
 use Rattle.law_words.specs.Passing.{Passing, nothing_told, with_passings}
@@ -67,6 +67,7 @@ use Rattle.promises.specs.Configs.{config_of}
 use Rattle.law_run.proofs.BearerWalk.{is_first, at_each, adds_one}
 use Rattle.law_run.proofs.Delivering.{ups_are_told, ups_told}
 use Rattle.law_run.proofs.Early.{is_early}
+use Rattle.law_run.proofs.EmptyLists.{parts_empty, empty_if}
 use Rattle.law_run.proofs.Failed.{HasSender, sender_goes, sender_begins}
 use Rattle.law_run.proofs.DrainBegins.{none_forged}
 use Rattle.law_run.proofs.DrainDone.{is_done}
@@ -284,8 +285,8 @@ none_delivered : (side : Side) (l : ℕ) (past : List Group) → delivered side 
     → delivered_since side l past ≡ []
 none_delivered side l [] e = refl
 none_delivered side l (g ∷ past) e =
-    let parts = none_both (delivered side l past) (ups_in side l g.events) e in
-    if_none (is_handover g.line) (delivered_since side l past) (ups_in side l g.events)
+    let parts = parts_empty (delivered side l past) (ups_in side l g.events) e in
+    empty_if (is_handover g.line) (delivered_since side l past) (ups_in side l g.events)
     (none_delivered side l past parts.0) parts.1
 
 -- ---- the line in which its bearers come
@@ -376,7 +377,7 @@ drains_leave_no_signal (g ∷ past) (right, order) = (
 -- ---- in a handover
 
 front_of_none : (xs ys : List (List ℕ)) → ys ≡ [] → AreFirstSdus xs ys → xs ≡ []
-front_of_none xs ys none f = (none_both xs f.rest (sym f.is ∙ none)).0
+front_of_none xs ys none f = (parts_empty xs f.rest (sym f.is ∙ none)).0
 
 moves_none : (line : Line) → is_handover line ≡ true → (side : Side) (l : ℕ) (told : List Record)
     → handed_in side l (part_of_line line) told ≡ []

@@ -45,6 +45,7 @@ use Rattle.promises.specs.Telling.{LineTells, channels}
 use Rattle.law_run.specs.Order.{state_behind, IsRight, KeepsOrder}
 use Rattle.law_run.proofs.Counts.{goes}
 use Rattle.law_run.proofs.BearerWalk.{adds_one, Comes, comes, behind_all}
+use Rattle.law_run.proofs.EmptyLists.{parts_empty}
 use Rattle.law_run.proofs.Failed.{HasSender, sender_goes, sender_begins, begins_unfailed}
 use Rattle.law_run.proofs.Failing.{calls_run}
 use Rattle.law_run.proofs.Past.{link_behind}
@@ -160,14 +161,10 @@ none_fail l (e ∷ es) h =
 
 -- ---- calls of a life
 
-no_keys : (xs ys : List Keys) → xs ++ ys ≡ [] → (xs ≡ []) × (ys ≡ [])
-no_keys [] ys e = (refl, e)
-no_keys (x ∷ xs) ys e = absurd cc
-
 pub in_life : (l : ℕ) (cs : List Call) → AddNone l cs → moves cs ≡ [] → AllByRecursion (GoesOnInLife l) cs
 in_life l [] a m = tt
 in_life l (c ∷ cs) a m =
-    let parts = no_keys (keys_in c) (moves cs) m in
+    let parts = parts_empty (keys_in c) (moves cs) m in
     (record { adds_none = a.0; moves_none = parts.0 }, in_life l cs a.1 parts.1)
 
 pub moves_none : (line : Line) (keys : Option Keys) → is_handover line ≡ false → moves (lives_by line keys) ≡ []
@@ -248,10 +245,6 @@ module _ (side : Side) (l : ℕ) (past : List Group) (g : Group) (right : IsRigh
 
 -- ---- as a bearer comes
 
-pub no_events : (xs ys : List Event) → xs ++ ys ≡ [] → (xs ≡ []) × (ys ≡ [])
-no_events [] ys e = (refl, e)
-no_events (x ∷ xs) ys e = absurd cc
-
 if_none : (b : Bool) (xs ys : List Event) → xs ≡ [] → ys ≡ [] → (if b then [] else xs ++ ys) ≡ []
 if_none true xs ys p q = refl
 if_none false xs ys p q = ap (λ (zs : List Event). zs ++ ys) p ∙ q
@@ -260,7 +253,7 @@ none_since : (side : Side) (l : ℕ) (past : List Group) → events_of side (his
     → told_since side l past ≡ []
 none_since side l [] e = refl
 none_since side l (g ∷ past) e =
-    let parts = no_events (events_of side (history past)) (events_of side g.events)
+    let parts = parts_empty (events_of side (history past)) (events_of side g.events)
     (sym (told_both side (history past) (records.Line g.number g.line ∷ g.events) (events_of side (history past))
     (events_of side g.events) refl refl) ∙ e) in
     if_none (is_handover g.line) (told_since side l past) (told_on l (events_of side g.events))

@@ -14,6 +14,7 @@ use Rattle.promises.specs.Taken.{leaving_in, were_taken}
 use Rattle.promises.specs.WaitingSdus.{Queue, with_left, AllMayLeave, left_by, after_record}
 use Rattle.promises.specs.WaitingSdus.{after_records, EachMayLeave}
 use Rattle.law_run.proofs.Early.{none_looped}
+use Rattle.law_run.proofs.EmptyLists.{parts_empty}
 use Rattle.law_run.proofs.TwoEnds.Stages.{looped_more}
 
 -- ---- the next COUNT
@@ -193,16 +194,12 @@ each_may from l first (one ∷ told) q h k =
 
 -- ---- parts of a group
 
-both_none : {A : Type 0} (xs ys : List A) → xs ++ ys ≡ [] → (xs ≡ []) × (ys ≡ [])
-both_none [] ys e = (refl, e)
-both_none (x ∷ xs) ys e = absurd cc
-
 -- in which none leaves
 pub counted_quiet : (from : Side) (l first : ℕ) (told : List Record) (q : Queue) → left_in from l told ≡ []
     → Counted from l first told q
 counted_quiet from l first [] q e = tt
 counted_quiet from l first (one ∷ told) q e =
-    let both = both_none (left_by from l one) (left_in from l told) (sym (left_one from l one told) ∙ e) in
+    let both = parts_empty (left_by from l one) (left_in from l told) (sym (left_one from l one told) ∙ e) in
     (inl both.0, counted_quiet from l first told (after_record from l one q) both.1)
 
 pub counted_then : (from : Side) (l first : ℕ) (xs ys : List Record) (q : Queue) → Counted from l first xs q
@@ -217,7 +214,7 @@ counted_end from l first [] q none le = tt
 counted_end from l first (one ∷ told) q none le =
     let ms = left_by from l one in
     let rest = left_in from l told in
-    let both = both_none (looped_at from l (one ∷ [])) (looped_at from l told)
+    let both = parts_empty (looped_at from l (one ∷ [])) (looped_at from l told)
     (looped_more from l (one ∷ []) told ∙ none) in
     let apart = ap (λ (xs : List (Option ℕ)). gone first (q.leaving ++ xs)) (left_one from l one told)
     ∙ sym (ap (gone first) (append_assoc q.leaving ms rest)) in
