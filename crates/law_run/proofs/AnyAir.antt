@@ -38,12 +38,13 @@ use Rattle.law_run.specs.AnyCalls.Calls as calls
 use Rattle.law_run.specs.AnyCalls.Runs.{Step, Calls}
 use Rattle.law_run.specs.TwoEnds.Coming.{none_yet}
 use Rattle.law_run.specs.TwoEnds.Going.{GoesByAir, IsStepSince}
-use Rattle.law_run.specs.TwoEnds.On.{until, IsStation, IsOn}
+use Rattle.law_run.specs.TwoEnds.On.{IsOn}
 use Rattle.law_run.proofs.AnyCalls.Calling.{calls_adds}
 use Rattle.law_run.proofs.AnyCalls.Going.{Seen, told_seen, told_both, own_told, other_told, run_on, over_on}
 use Rattle.law_run.proofs.Flowing.{Sdus, Happened, StepLives, GoesThrough, PartLives, step_plays, line_stays}
 use Rattle.law_run.proofs.BearerWalk.{adds_one}
-use Rattle.law_run.proofs.TwoEnds.Coming.{ends_come_by, steps_come}
+use Rattle.law_run.proofs.TwoEnds.Advancing.{both_on}
+use Rattle.law_run.proofs.TwoEnds.Coming.{ends_come_by, come_as, come_by_none, steps_come}
 use Rattle.law_run.proofs.TwoEnds.Going.{calm, station, with_station, last_in, tells_more}
 use Rattle.law_run.proofs.TwoEnds.Resting.{loops_rests}
 use Rattle.law_run.proofs.TwoEnds.Stages.{Both, Stands, stands_on, quiet_events, events_unlooped, none_looped}
@@ -106,29 +107,10 @@ module _ (l : ℕ) (a : Air) where
 
   through : GoesThrough l Live
   through = record {
-    same = λ told told' handed handed' flown flown' set set' k e f q g h. record {
-      steps = h.steps;
-      living = h.living;
-      told_is = λ side. ap (events_of side) (sym e) ∙ h.told_is side;
-      submitted_is = λ side n. h.submitted_is side n ∙ f side n;
-      happened_is = λ bits from. h.happened_is bits from ∙ q bits from;
-      sets_none = λ off. h.sets_none (g ∙ off);
-      on = h.on;
-    };
+    same = come_as l a;
     unseen = λ told handed flown set k out h.
         ends_come_by l told handed flown set k (record k { out = out }) a refl refl refl h;
     steps = λ told handed flown set s k g own h. steps_fly told handed flown set s k g h;
-  }
-
-  pub standing : (k : Link) → IsOn k a → Live [] none_yet none_happened false k
-  standing k h = record {
-    steps = [];
-    living = tt;
-    told_is = λ side. refl;
-    submitted_is = λ side n. refl;
-    happened_is = λ bits from. refl;
-    sets_none = λ off side. tt;
-    on = h;
   }
 
   by_part : (set : Bool) (ends : List AccountEntry) (p : Part) (k m : Link) → IsOn k a
@@ -153,10 +135,11 @@ module _ (l : ℕ) (a : Air) where
       let s = Calls (calls.HandsOver (next_keys user rrc integrity (keys_or_none keys))) in
       by_part _ _ Rests k _ h
       (step_plays l Live through [] none_yet none_happened false s k Rests nothing (λ side n. refl)
-      (steps_fly [] none_yet none_happened false s k tt (standing k h)))
+      (steps_fly [] none_yet none_happened false s k tt (come_by_none l k a h)))
   unforged_plays line keys k nothing fits other own h =
       by_part _ _ _ k _ h
-      (line_stays l Live through [] none_yet none_happened false line keys k nothing fits other own refl (standing k h))
+      (line_stays l Live through [] none_yet none_happened false line keys k nothing fits other own refl
+      (come_by_none l k a h))
 
 -- ---- a forged block comes
 
@@ -168,16 +151,6 @@ hearings_submit : (l : ℕ) (blocks : List (List ℕ)) (cs : List EndCall) (e : 
     → was_submitted l (map Receive blocks ++ cs) e ≡ was_submitted l cs (run_end (map Receive blocks) e)
 hearings_submit l [] cs e = refl
 hearings_submit l (b ∷ bs) cs e = hearings_submit l bs cs (after_call e (Receive b))
-
-on_behind : (t : ℕ) (m : Link) (a : Air) → m.ttis ≡ t → Both (Stands Nb (Waits t)) (Stands Ue (Waits t)) m a → IsOn m a
-on_behind t m a same h = record {
-  nb_is = h.nb_is;
-  ue_is = h.ue_is;
-  nb = subst (λ (n : ℕ). IsStation Nb (until n) a.nb) (sym same) h.nb.is;
-  ue = subst (λ (n : ℕ). IsStation Ue (until n) a.ue) (sym same) h.ue.is;
-  nb_idle = h.nb.idle;
-  ue_idle = h.ue.idle;
-}
 
 -- an end hears it, and then the test loop returns what goes up
 module _ (l : ℕ) (block : List ℕ) (k : Link) (a : Air) (nothing : k.out ≡ []) (h : IsOn k a) where
@@ -246,7 +219,7 @@ module _ (l : ℕ) (block : List ℕ) (k : Link) (a : Air) (nothing : k.out ≡ 
       let steps = r.goes.steps in
       let out : m.out ≡ told from ++ r.more = r.out_is ∙ ap (λ (o : List Record). o ++ r.more) x.out_is in
       let on = subst (IsOn m) (sym r.goes.air_is)
-      (on_behind t m r.air (calls_adds (calls.Forges from block) k).ttis_is r.both) in
+      (both_on t m r.air (calls_adds (calls.Forges from block) k).ttis_is r.both) in
       record {
         forged = to from;
         first = heard from;

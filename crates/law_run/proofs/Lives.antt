@@ -12,7 +12,6 @@ use Rattle.eps_sec.specs.declared.Keys.{Keys}
 use Rattle.l2_types.specs.declared.side.Side.{Side}
 use Rattle.law_run.specs.AnyCalls.Calls as calls
 use Rattle.bearer_types.specs.Sides.{sent_by}
-use Rattle.promises.specs.Records.{events_of}
 use Rattle.law_run.specs.AnyCalls.Runs.{Step, Calls}
 use Rattle.l2_node.specs.End.{End}
 use Rattle.law_deliver.specs.AmFlow.Air.{outset}
@@ -20,7 +19,7 @@ use Rattle.promises.specs.Arrival.{entries_ended}
 use Rattle.law_words.specs.Arrivals.{AccountEntry}
 use Rattle.law_run.specs.TwoEnds.Going.{GoesByAir, IsStepSince}
 use Rattle.law_run.specs.TwoEnds.Staying.{is_handover_step}
-use Rattle.law_run.proofs.TwoEnds.Coming.{ends_come_by, steps_come}
+use Rattle.law_run.proofs.TwoEnds.Coming.{ends_come_by, come_as, steps_come}
 use Rattle.law_run.proofs.TwoEnds.Staying.{LivedIn, ends_live_in, lived_in_as, steps_live_in}
 use Rattle.law_run.specs.TwoEnds.Shown.{IsShown, anew}
 use Rattle.law_run.proofs.TwoEnds.Showing.{in_then}
@@ -62,20 +61,6 @@ module _ (l : ℕ) (nb ue : End) (bits : ℕ) (Um : Type 0) where
     pub told_is : told ≡ first ++ since
     pub whats_are : Um → (from : Side) (place : Cursor)
         → whats from l bits by.steps (outset nb ue) ≡ haps from ++ told_in (sent_by from) l place since
-
-  abbrev same_by : (told told' : List Record) (handed handed' : Sdus) (flown flown' : Happened) (set set' : Bool)
-      (k : Link) → told ≡ told' → ((side : Side) (n : ℕ) → handed side n ≡ handed' side n)
-      → ((bits : ℕ) (from : Side) → flown bits from ≡ flown' bits from) → set ≡ set'
-      → GoesByAir l told handed flown set k (outset nb ue) → GoesByAir l told' handed' flown' set' k (outset nb ue)
-  same_by told told' handed handed' flown flown' set set' k e f a g h = record {
-    steps = h.steps;
-    living = h.living;
-    told_is = λ side. ap (events_of side) (sym e) ∙ h.told_is side;
-    submitted_is = λ side n. h.submitted_is side n ∙ f side n;
-    happened_is = λ bits from. h.happened_is bits from ∙ a bits from;
-    sets_none = λ off. h.sets_none (g ∙ off);
-    on = h.on;
-  }
 
   -- records aren't looked at
   pub unseen : (told : List Record) (handed : Sdus) (flown : Happened) (haps : Haps) (set : Bool) (k : Link)
@@ -144,7 +129,7 @@ module _ (l : ℕ) (nb ue : End) (bits : ℕ) (Um : Type 0) where
     through = record {
       same = λ told told' handed handed' flown flown' set set' k e f a g h.
           record {
-            by = same_by told told' handed handed' flown flown' set set' k e f a g h.by;
+            by = come_as l (outset nb ue) told told' handed handed' flown flown' set set' k e f a g h.by;
             kinds = h.kinds;
             since = h.since;
             told_is = sym e ∙ h.told_is;

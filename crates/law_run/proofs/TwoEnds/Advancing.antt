@@ -70,7 +70,8 @@ on_both k a h = record {
   ue = record { is = h.ue; idle = h.ue_idle };
 }
 
-both_on : (t : ℕ) (m : Link) (a : Air) → m.ttis ≡ t → Both (Stands Nb (Waits t)) (Stands Ue (Waits t)) m a → IsOn m a
+pub both_on : (t : ℕ) (m : Link) (a : Air) → m.ttis ≡ t → Both (Stands Nb (Waits t)) (Stands Ue (Waits t)) m a
+    → IsOn m a
 both_on t m a same h = record {
   nb_is = h.nb_is;
   ue_is = h.ue_is;

@@ -7,19 +7,21 @@ use Rattle.bearer_types.specs.Configs.{IsConfig}
 use Rattle.bearer_types.specs.declared.config.BearerConfig.{BearerConfig}
 use Rattle.eps_sec.specs.declared.Keys.{Keys}
 use Rattle.l2_types.specs.declared.side.Side.{Side}
+use Rattle.law_node.specs.Calls.{Add, after as after_call}
 use Rattle.l2_types.specs.declared.side.Side.TheVariants.{Nb, Ue}
 use Rattle.law_run.specs.AnyCalls.Calls.{Bears}
 use Rattle.law_run.specs.AnyCalls.Runs.{Step, step}
-use Rattle.law_deliver.specs.AmFlow.Air.{Air}
+use Rattle.law_deliver.specs.AmFlow.Air.{Air, outset}
 use Rattle.law_words.specs.Arrivals.{AccountEntry}
 use Rattle.law_deliver.specs.AmChannel.Arrival.{happened}
 use Rattle.law_deliver.specs.AmChannel.Lives.{lives}
 use Rattle.um_losses.specs.declared.flow.Happening.{Happening}
 use Rattle.law_deliver.specs.UmGaps.Whats.{whats}
 use Rattle.law_run.specs.TwoEnds.Arrival.{told_by_step}
-use Rattle.law_run.specs.TwoEnds.Coming.{BearersBegin, ComesOn, ComesAs}
+use Rattle.law_run.specs.TwoEnds.Coming.{none_yet, BearersBegin, ComesOn, ComesAs}
 use Rattle.law_run.specs.TwoEnds.Going.{handed_in, sets, GoesByAir, IsStepSince}
 use Rattle.promises.specs.Flows.{looped_at}
+use Rattle.promises.specs.Records.{events_of}
 use Rattle.law_run.specs.TwoEnds.Lives.{IsAtRest}
 use Rattle.law_run.specs.TwoEnds.On.{until, IsStation, IsOn}
 use Rattle.law_run.proofs.TwoEnds.Advancing.{steps_go}
@@ -59,6 +61,34 @@ pub ends_come : (l : ℕ) (told : List Record) (submitted : Side → ℕ → Lis
 ends_come l told submitted said set k m a nb_is ue_is ttis_is x =
     record { by = ends_come_by l told submitted said set k m a nb_is ue_is ttis_is x; same = refl }
 
+-- the same records, SDUs and entries in another form
+abbrev pub come_as : (l : ℕ) (a : Air) (f g : List Record) (x y : Side → ℕ → List (List ℕ)) (s t : ℕ → Side
+    → List AccountEntry) (b c : Bool) (k : Link) → f ≡ g → ((side : Side) (n : ℕ) → x side n ≡ y side n)
+    → ((bits : ℕ) (from : Side) → s bits from ≡ t bits from) → b ≡ c → GoesByAir l f x s b k a
+    → GoesByAir l g y t c k a
+come_as l a f g x y s t b c k told same air on h = record {
+  steps = h.steps;
+  living = h.living;
+  told_is = λ side. ap (events_of side) (sym told) ∙ h.told_is side;
+  submitted_is = λ side n. h.submitted_is side n ∙ same side n;
+  happened_is = λ bits from. h.happened_is bits from ∙ air bits from;
+  sets_none = λ off. h.sets_none (on ∙ off);
+  on = h.on;
+}
+
+-- by no step
+abbrev pub come_by_none : (l : ℕ) (k : Link) (a : Air) → IsOn k a
+    → GoesByAir l [] none_yet (λ bits from. []) false k a
+come_by_none l k a on = record {
+  steps = [];
+  living = tt;
+  told_is = λ side. refl;
+  submitted_is = λ side n. refl;
+  happened_is = λ bits from. refl;
+  sets_none = λ off side. tt;
+  on = on;
+}
+
 -- ---- the bearers come
 
 pub bearers_begin : (config : BearerConfig) (keys : Keys) (k : Link) → IsConfig config → IsAtRest k
@@ -66,15 +96,9 @@ pub bearers_begin : (config : BearerConfig) (keys : Keys) (k : Link) → IsConfi
 unfolding bears
 bearers_begin config keys k g h = record {
   out_is = refl;
-  by = record {
-    steps = [];
-    living = tt;
-    told_is = λ side. refl;
-    submitted_is = λ side n. refl;
-    happened_is = λ bits from. refl;
-    sets_none = λ off side. tt;
-    on = calls_rest (Bears config keys) k g tt h;
-  };
+  by = come_by_none config.channel.lcid (bears config keys k)
+      (outset (after_call k.nb (Add config keys)) (after_call k.ue (Add config keys)))
+      (calls_rest (Bears config keys) k g tt h);
   no_steps = refl;
 }
 

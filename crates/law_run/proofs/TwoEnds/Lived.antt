@@ -17,7 +17,6 @@ use Rattle.l2_types.specs.declared.side.Side.{Side}
 use Rattle.l2_types.specs.declared.side.Side.TheVariants.{Nb, Ue}
 use Rattle.law_node.specs.Calls.{Add, after as after_call}
 use Rattle.law_node.proofs.Living.{added}
-use Rattle.promises.specs.Records.{events_of}
 use Rattle.law_run.specs.AnyCalls.Runs.{Step, Run, step, emptied, goes as run_goes, goes_on as run_on}
 use Rattle.law_deliver.specs.AmFlow.Air.{Air, outset, HasCome}
 use Rattle.law_words.specs.Arrivals.{AccountEntry}
@@ -31,7 +30,7 @@ use Rattle.law_run.specs.TwoEnds.Lived.{submitted_in, said_in, sets_in, RunsOn}
 use Rattle.law_run.specs.TwoEnds.Lives.{IsAtRest}
 use Rattle.law_run.specs.TwoEnds.On.{IsOn}
 use Rattle.law_run.proofs.TwoEnds.Advancing.{steps_go}
-use Rattle.law_run.proofs.TwoEnds.Coming.{bearers_begin, ends_come_by, steps_come}
+use Rattle.law_run.proofs.TwoEnds.Coming.{bearers_begin, ends_come_by, come_as, steps_come}
 use Rattle.law_run.proofs.TwoEnds.Keeping.{Keeps, steps_keep}
 
 -- ---- what else is of a link
@@ -124,18 +123,8 @@ steps_live l nb ue told submitted said set s k g h =
 lived_as : (l : ℕ) (nb ue : End) (f g : List Record) (x y : Side → ℕ → List (List ℕ)) (s t : ℕ → Side
     → List AccountEntry) (b c : Bool) (k : Link) → f ≡ g → ((side : Side) (n : ℕ) → x side n ≡ y side n)
     → ((bits : ℕ) (from : Side) → s bits from ≡ t bits from) → b ≡ c → Lived l nb ue f x s b k → Lived l nb ue g y t c k
-lived_as l nb ue f g x y s t b c k told same alike on h = record {
-  by = record {
-    steps = h.by.steps;
-    living = h.by.living;
-    told_is = λ side. ap (events_of side) (sym told) ∙ h.by.told_is side;
-    submitted_is = λ side n. h.by.submitted_is side n ∙ same side n;
-    happened_is = λ bits from. h.by.happened_is bits from ∙ alike bits from;
-    sets_none = λ off. h.by.sets_none (on ∙ off);
-    on = h.by.on;
-  };
-  bearers = h.bearers;
-}
+lived_as l nb ue f g x y s t b c k told same alike on h =
+    record { by = come_as l (outset nb ue) f g x y s t b c k told same alike on h.by; bearers = h.bearers }
 
 any_none : (x : Bool) → x ≡ (x || false)
 any_none true = refl

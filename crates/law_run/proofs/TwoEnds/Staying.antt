@@ -10,7 +10,6 @@ use Rattle.l2_node.specs.End.{End}
 use Rattle.l2_types.specs.declared.side.Side.{Side}
 use Rattle.law_node.specs.Calls.{Add, Move, after as after_call}
 use Rattle.law_run.specs.AnyCalls.Calls.{Bears, HandsOver}
-use Rattle.promises.specs.Records.{events_of}
 use Rattle.law_run.specs.AnyCalls.Runs.{Step, Calls, step}
 use Rattle.law_deliver.specs.AmFlow.Air.{Air, outset}
 use Rattle.law_words.specs.Arrivals.{AccountEntry}
@@ -26,7 +25,7 @@ use Rattle.law_run.specs.TwoEnds.Staying.{AreInLife, is_handover_step, MovesOn}
 use Rattle.law_run.proofs.TwoEnds.Advancing.{steps_stay, handovers_move}
 use Rattle.promises.specs.Arrival.{entries_in}
 use Rattle.law_run.proofs.TwoEnds.Going.{setting, Unread, Whats, GoesBehind, behind_then, happens_then}
-use Rattle.law_run.proofs.TwoEnds.Coming.{either_off, same_on}
+use Rattle.law_run.proofs.TwoEnds.Coming.{either_off, ends_come_by, come_as, come_by_none}
 use Rattle.law_run.proofs.TwoEnds.Lives.{calls_rest}
 
 -- since both ends were these, in one life, a link has come by air to what it is
@@ -40,20 +39,10 @@ pub ends_live_in : (l : ℕ) (nb ue : End) (told : List Record) (submitted : Sid
     → List AccountEntry) (set : Bool) (k m : Link)
     → m.nb ≡ k.nb → m.ue ≡ k.ue → m.ttis ≡ k.ttis → LivedIn l nb ue told submitted said set k
     → LivedIn l nb ue told submitted said set m
-ends_live_in l nb ue told submitted said set k m nb_is ue_is ttis_is h =
-    let x = h.by in
-    record {
-      by = record {
-        steps = x.steps;
-        living = x.living;
-        told_is = x.told_is;
-        submitted_is = x.submitted_is;
-        happened_is = x.happened_is;
-        sets_none = x.sets_none;
-        on = same_on k m (lives x.steps (outset nb ue)) nb_is ue_is ttis_is x.on;
-      };
-      in_life = h.in_life;
-    }
+ends_live_in l nb ue told submitted said set k m nb_is ue_is ttis_is h = record {
+  by = ends_come_by l told submitted said set k m (outset nb ue) nb_is ue_is ttis_is h.by;
+  in_life = h.in_life;
+}
 
 -- the same records and SDUs in another form
 pub lived_in_as : (l : ℕ) (nb ue : End) (f g : List Record) (x y : Side → ℕ → List (List ℕ)) (v w : ℕ → Side
@@ -61,18 +50,8 @@ pub lived_in_as : (l : ℕ) (nb ue : End) (f g : List Record) (x y : Side → �
     → f ≡ g → ((side : Side) (n : ℕ) → x side n ≡ y side n)
     → ((bits : ℕ) (from : Side) → v bits from ≡ w bits from) → b ≡ c
     → LivedIn l nb ue f x v b k → LivedIn l nb ue g y w c k
-lived_in_as l nb ue f g x y v w b c k told same air on h = record {
-  by = record {
-    steps = h.by.steps;
-    living = h.by.living;
-    told_is = λ side. ap (events_of side) (sym told) ∙ h.by.told_is side;
-    submitted_is = λ side n. h.by.submitted_is side n ∙ same side n;
-    happened_is = λ bits from. h.by.happened_is bits from ∙ air bits from;
-    sets_none = λ off. h.by.sets_none (on ∙ off);
-    on = h.by.on;
-  };
-  in_life = h.in_life;
-}
+lived_in_as l nb ue f g x y v w b c k told same air on h =
+    record { by = come_as l (outset nb ue) f g x y v w b c k told same air on h.by; in_life = h.in_life }
 
 -- ---- a step since
 
@@ -163,15 +142,9 @@ pub bearers_live_in : (config : BearerConfig) (keys : Keys) (k : Link) → IsCon
     (λ side n. []) (λ bits from. []) false (bears config keys k)
 unfolding bears
 bearers_live_in config keys k g h = record {
-  by = record {
-    steps = [];
-    living = tt;
-    told_is = λ side. refl;
-    submitted_is = λ side n. refl;
-    happened_is = λ bits from. refl;
-    sets_none = λ off side. tt;
-    on = calls_rest (Bears config keys) k g tt h;
-  };
+  by = come_by_none config.channel.lcid (bears config keys k)
+      (outset (after_call k.nb (Add config keys)) (after_call k.ue (Add config keys)))
+      (calls_rest (Bears config keys) k g tt h);
   in_life = tt;
 }
 

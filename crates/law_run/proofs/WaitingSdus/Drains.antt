@@ -23,11 +23,11 @@ use Rattle.law_run.specs.AnyCalls.Runs.{Step, Drains, Calls, step}
 use Rattle.law_run.specs.TwoEnds.Coming.{none_yet}
 use Rattle.law_run.specs.TwoEnds.Going.{IsStepSince, handed_in}
 use Rattle.law_run.specs.TwoEnds.On.{IsOn}
-use Rattle.law_run.proofs.AnyAir.{at_end, by_steps, standing}
+use Rattle.law_run.proofs.AnyAir.{at_end, by_steps}
 use Rattle.law_run.proofs.AnyCalls.Advancing.{call_goes_on, drain_goes}
 use Rattle.law_run.proofs.AnyCalls.Standing.{Ready, both_ready_on, call_tells}
 use Rattle.law_run.proofs.Standing.{shown_ready}
-use Rattle.law_run.proofs.TwoEnds.Coming.{same_on, steps_come}
+use Rattle.law_run.proofs.TwoEnds.Coming.{same_on, come_by_none, steps_come}
 use Rattle.law_run.proofs.WaitingSdus.Calm.{IsCalm, calm_receivers, calm_senders}
 use Rattle.law_run.proofs.WaitingSdus.Counting.{Counted, each_may, counted_quiet, counted_end, left_in, gone, after_is}
 use Rattle.law_run.proofs.WaitingSdus.Counting.{behind_records, as_queue}
@@ -56,7 +56,7 @@ module _ (kind : PdcpKind) (p : Protection) (first bits l : ℕ) (side : Side) (
         → Fits kind p first bits l side q (end_of side k) → StepGoes q told (step s k)
     step_goes s k a told q g none out_is on h =
         let m = step s k in
-        let x = steps_come l [] none_yet (λ n from. []) false s k a g (standing l a k on) in
+        let x = steps_come l [] none_yet (λ n from. []) false s k a g (come_by_none l k a on) in
         let same : x.more ≡ told = append_cancel_left k.out x.more told (sym x.out_is ∙ out_is) in
         record {
           air = lives x.by.steps a;
