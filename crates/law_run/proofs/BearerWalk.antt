@@ -65,7 +65,7 @@ is_first c options r k allowed =
       none = no_cause (is_taken c.channel.lcid k) BearerTwice (not_first taken _ (not_second (late r) _ all));
     }
 
-pub has_bits : (count : ℕ) → count ≤ 4294967295 → count < 2 ^ 32
+has_bits : (count : ℕ) → count ≤ 4294967295 → count < 2 ^ 32
 has_bits count within = omega (arith, within)
 
 pub at_each : (P : Side → Type 0) → P Nb → P Ue → (side : Side) → P side

@@ -10,7 +10,7 @@ use Rattle.bearer_types.specs.Sides.{other, sent_by}
 use Rattle.air_record.specs.declared.line.Line.TheVariants as lines
 use Rattle.air_record.specs.declared.record.Record.{Record}
 use Rattle.air_record.specs.declared.record.Record.TheVariants as records
-use Rattle.air_run.specs.Playing.{keys_or_none, acted}
+use Rattle.air_run.specs.Playing.{acted}
 use Rattle.air_run.specs.Rules.{accepted}
 use Rattle.air_run.specs.Run.{behind_line}
 use Rattle.air_text.specs.Groups.{Group, history}
@@ -31,23 +31,20 @@ use Rattle.l2_node.specs.End.{End}
 use Rattle.l2_types.specs.declared.channel.Kind.TheVariants.{Am, Um}
 use Rattle.l2_types.specs.declared.side.Side.{Side}
 use Rattle.l2_types.specs.declared.side.Side.TheVariants.{Nb, Ue}
-use Rattle.law_node.specs.Calls.{Add, after as after_call}
 use Rattle.law_node.specs.Telling.{told_over}
 use Rattle.promises.specs.Records.{is_up, event_of, events_of, sdu_of, ups_in}
 use Rattle.law_run.proofs.AnyCalls.Going.{told_both}
 use Rattle.prioritise.proofs.ChannelLemmas.{both_false}
 use Rattle.promises.specs.Arrival.{entries_in, entries_ended, entries_from}
 use Rattle.law_words.specs.Arrivals.{AccountEntry}
-use Rattle.law_run.proofs.TwoEnds.Coming.{bearers_begin, ends_come_by}
+use Rattle.law_run.proofs.TwoEnds.Coming.{come_by_none}
 use Rattle.air_run.specs.Written.{all_seen, noticed, with_um}
 use Rattle.um_losses.specs.Flow.{Flow}
 use Rattle.um_losses.specs.declared.cursor.Cursor.{Cursor}
 use Rattle.um_losses.specs.declared.flow.Happening.{Happening}
 use Rattle.um_losses.specs.Told.{told_in, all_after, flow_at}
 use Rattle.law_deliver.specs.UmGaps.Delivery.{first_flow}
-use Rattle.law_deliver.specs.UmGaps.Whats.{whats}
 use Rattle.law_deliver.proofs.UmGaps.Acting.{after_then}
-use Rattle.law_run.proofs.TwoEnds.Lives.{channels_begin}
 use Rattle.promises.specs.Delivery.{forges, is_forged, sets_timer, is_timed, discarded, DeliverAll, DeliversInOrder}
 use Rattle.promises.specs.Flows.{handed_in, looped_at, submitted, delivered}
 use Rattle.law_run.specs.Order.{state_behind, IsRight, KeepsOrder}
@@ -60,7 +57,7 @@ use Rattle.law_run.proofs.Lives.{Lived, LineLives, lived_now, unseen, line_lives
 use Rattle.law_run.proofs.Past.{behind, link_behind}
 use Rattle.law_run.proofs.Reaching.{kinds_behind}
 use Rattle.law_run.proofs.Seen.{all_seen_flow, noticed_flow, noticed_place, no_flow, new_flow, new_shown}
-use Rattle.law_run.proofs.BearerWalk.{adds_one, is_first, has_bits, at_each, behind_all}
+use Rattle.law_run.proofs.BearerWalk.{adds_one, is_first, comes, behind_all}
 
 -- ---- what goes up at an end, as records tell it and as the end does
 
@@ -218,48 +215,38 @@ begin_by : (past : List Group) (g : Group) (c : BearerConfig) (options : _)
 unfolding acted accepted bears
 begin_by past g c options right order =
     let l = c.channel.lcid in
-    let r = (state_behind past).rules in
-    let k = link_behind past in
-    let keys = keys_or_none r.keys in
-    let f = is_first c options r k right.allowed in
-    let here = both_false _ _ f.none in
-    let now = is_early (record g { line = lines.Bearer c options } ∷ past) (right, order) f.early in
-    let rest = (is_early past order f.early).rest in
-    let b = bearers_begin c keys k right.in_range rest in
+    let all : List Group = record g { line = lines.Bearer c options } ∷ past in
+    let there = link_behind all in
+    let f = is_first c options (state_behind past).rules (link_behind past) right.allowed in
+    let x = comes past g c options right order in
     record {
-      config = right.in_range;
-      first = has_bits c.first right.count;
-      keys = keys;
-      nb = _;
-      ue = _;
-      nb_begun = channels_begin c keys k right.in_range rest Nb here.0;
-      ue_begun = channels_begin c keys k right.in_range rest Ue here.1;
+      config = x.config;
+      first = x.first;
+      keys = x.keys;
+      nb = there.nb;
+      ue = there.ue;
+      nb_begun = x.begun Nb;
+      ue_begun = x.begun Ue;
       told = [];
       handed = λ side n. [];
       flown = λ bits from. [];
       haps = λ from. [];
       set = false;
       lived = record {
-        by = ends_come_by l [] _ _ false (bears c keys k) (record (bears c keys k) { out = [] })
-            (outset (after_call k.nb (Add c keys)) (after_call k.ue (Add c keys))) refl refl refl b.by;
-        kinds = λ kind. new_shown past c k.kinds (kinds_behind past order) kind right.in_range;
-        whats_are =
-            λ kind from. ap
-            (λ (steps : List AirStep). whats from l c.rlc_bits steps
-            (outset (after_call k.nb (Add c keys)) (after_call k.ue (Add c keys)))) b.no_steps;
+        by = come_by_none l there (outset there.nb there.ue) x.early.rest;
+        kinds = λ kind. new_shown past c (link_behind past).kinds (kinds_behind past order) kind right.in_range;
+        whats_are = λ kind from. refl;
       };
       unset = λ off. refl;
-      told_is = now.none_told;
-      submitted_is = λ side. now.none_submitted side l;
-      happened_is = λ bits from. now.none_happened bits l from;
-      senders = λ kind. at_each (λ side. HasSender side l _)
-          (sender_begins Nb l c keys _ (channels_begin c keys k right.in_range rest Nb here.0))
-          (sender_begins Ue l c keys _ (channels_begin c keys k right.in_range rest Ue here.1));
+      told_is = x.early.none_told;
+      submitted_is = λ side. x.early.none_submitted side l;
+      happened_is = λ bits from. x.early.none_happened bits l from;
+      senders = λ kind side. sender_begins side l c x.keys all (x.begun side);
       flows = λ kind from.
           ap (λ (out : List Record). flow_at (sent_by from) l
           (all_seen out (with_um c.kind c (state_behind past).losses)).flows) (is_early past order f.early).silent
           ∙ new_flow from c (state_behind past).losses kind right.in_range
-          (λ dir. no_flow past order f.early dir l here.0);
+          (λ dir. no_flow past order f.early dir l (both_false _ _ f.none).0);
     }
 
 -- ---- behind all groups

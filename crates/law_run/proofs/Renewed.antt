@@ -4,7 +4,6 @@ use Rattle.std.proofs.Common.{◌≡◌, ◌⊎◌, inl, inr, ◌<◌, arith, �
 use Rattle.std.proofs.Common.{if◌then◌else◌, Some, None, List, [], ◌∷◌, ◌++◌, map, length, refl, ap, sym, subst, ◌∙◌}
 use Rattle.std.proofs.lemmas.Bool.Decides.{nat_tests}
 use Rattle.std.proofs.lemmas.List.Concat.{flat_map-append}
-use Rattle.air_link.specs.Lines.{bears}
 use Rattle.air_link.specs.Link.{Link}
 use Rattle.air_record.specs.Cells.{next_keys}
 use Rattle.air_record.specs.declared.line.Line.{Line}
@@ -12,7 +11,7 @@ use Rattle.air_record.specs.declared.line.Line.TheVariants as lines
 use Rattle.air_record.specs.declared.record.Record.{Record}
 use Rattle.air_record.specs.declared.record.Record.TheVariants as records
 use Rattle.air_run.specs.Playing.{keys_or_none, acted}
-use Rattle.air_run.specs.Rules.{Rules, late, unknown, refused_if, rule_broken, refusal, accepted}
+use Rattle.air_run.specs.Rules.{Rules, late, unknown, refused_if, rule_broken, refusal}
 use Rattle.air_run.specs.Run.{behind_line}
 use Rattle.air_run.specs.declared.refusal.RunRefusal.TheVariants.{NoDiscard}
 use Rattle.air_text.specs.Groups.{Group, history}
@@ -24,18 +23,17 @@ use Rattle.l2_types.specs.declared.channel.Kind.TheVariants.{Tm, Srb, Um, Am}
 use Rattle.l2_types.specs.declared.side.Side.{Side}
 use Rattle.l2_types.specs.declared.side.Side.TheVariants.{Nb, Ue}
 use Rattle.law_run.proofs.AnyCalls.Going.{told_both}
-use Rattle.law_run.proofs.TwoEnds.Lives.{channels_begin}
-use Rattle.law_run.proofs.TwoEnds.Staying.{LivedIn, bearers_live_in, LivesAnew, lives_anew}
+use Rattle.law_run.proofs.TwoEnds.Coming.{come_by_none}
+use Rattle.law_run.proofs.TwoEnds.Staying.{LivedIn, LivesAnew, lives_anew}
 use Rattle.law_run.specs.TwoEnds.Staying.{AreInLife}
 use Rattle.law_deliver.proofs.SrbChannel.Queue.{AreInOneLife, BeginsEmpty, begins_first, tells_what_leaves, none_leaves}
 use Rattle.law_deliver.proofs.SrbChannel.Queue.{next_begins}
 use Rattle.law_deliver.specs.AmChannel.Lives.{AirStep, InLife, Moves, lives, end_at}
 use Rattle.law_deliver.specs.AmFlow.Air.{Air, outset}
 use Rattle.law_node.proofs.Queueing.{waits_in}
-use Rattle.law_node.specs.Calls.{Add, Move, after as after_call}
+use Rattle.law_node.specs.Calls.{Move, after as after_call}
 use Rattle.law_node.specs.Holding.{flow}
-use Rattle.law_run.proofs.BearerWalk.{adds_one, is_first, at_each, behind_all}
-use Rattle.law_run.proofs.Early.{is_early}
+use Rattle.law_run.proofs.BearerWalk.{adds_one, at_each, Comes, comes, behind_all}
 use Rattle.law_run.proofs.EmptyLists.{parts_empty, empty_if}
 use Rattle.law_run.proofs.Flowing.{Sdus, Happened, looped_then, PartLives, line_stays}
 use Rattle.law_run.proofs.Keys.{not_first, not_second, no_cause}
@@ -258,37 +256,24 @@ low_of Um lcid (inr k) h = absurd cc
 low_of Am lcid (inl k) h = absurd cc
 low_of Am lcid (inr k) h = absurd cc
 
-unfoldable pub begins_renewed : (past : List Group) (g : Group) (c : BearerConfig) (options : _)
-    → IsRight past (record g { line = lines.Bearer c options }) → KeepsOrder past → (c.kind ≡ Tm) ⊎ (c.kind ≡ Srb)
-    → IsRenewed c.channel.lcid (record g { line = lines.Bearer c options } ∷ past)
-unfolding acted accepted bears
-begins_renewed past g c options right order kind =
+unfoldable pub begins_renewed : (past : List Group) (c : BearerConfig) → Comes c past
+    → (c.kind ≡ Tm) ⊎ (c.kind ≡ Srb) → IsRenewed c.channel.lcid past
+begins_renewed past c x kind =
     let l = c.channel.lcid in
-    let r = (state_behind past).rules in
     let k = link_behind past in
-    let keys = keys_or_none r.keys in
-    let f = is_first c options r k right.allowed in
-    let here = both_false _ _ f.none in
-    let all : List Group = record g { line = lines.Bearer c options } ∷ past in
-    let now' = is_early all (right, order) f.early in
-    let rest = (is_early past order f.early).rest in
-    let nb = after_call k.nb (Add c keys) in
-    let ue = after_call k.ue (Add c keys) in
     record {
-      low = low_of c.kind l kind right.in_range.lcid;
-      nb = nb;
-      ue = ue;
+      low = low_of c.kind l kind x.config.lcid;
+      nb = k.nb;
+      ue = k.ue;
       begun =
-          at_each (λ side. BeginsEmpty side l (end_at side (outset nb ue)))
-          (begins_first Nb l c keys nb kind (channels_begin c keys k right.in_range rest Nb here.0))
-          (begins_first Ue l c keys ue kind (channels_begin c keys k right.in_range rest Ue here.1));
+          at_each (λ side. BeginsEmpty side l (end_at side (outset k.nb k.ue)))
+          (begins_first Nb l c x.keys k.nb kind (x.begun Nb)) (begins_first Ue l c x.keys k.ue kind (x.begun Ue));
       told = [];
       handed = λ side n. [];
       flown = λ bits from. [];
-      lived = (through_life l nb ue).unseen [] (λ side n. []) (λ bits from. []) false (bears c keys k) []
-          (bearers_live_in c keys k right.in_range rest);
-      submitted_is = λ side. none_submitted side l all (now'.none_submitted side l);
-      left_is = λ side. none_left side l all (ap (lengths_on l) (now'.none_told side));
+      lived = record { by = come_by_none l k (outset k.nb k.ue) x.early.rest; in_life = tt };
+      submitted_is = λ side. none_submitted side l past (x.early.none_submitted side l);
+      left_is = λ side. none_left side l past (ap (lengths_on l) (x.early.none_told side));
     }
 
 -- ---- behind all groups, what begins as a bearer comes, and goes on through each line
@@ -312,13 +297,13 @@ module _ (P : ℕ → List Group → Type 0)
           (subst (λ (line : Line). IsRight past (record g { line = line })) is right) order d)
       over line is h = absurd cc
 
-  pub lives_behind : (K : Kind → Type 0) → ((past : List Group) (g : Group) (c : BearerConfig) (options : _)
-      → IsRight past (record g { line = lines.Bearer c options }) → KeepsOrder past → K c.kind
-      → P c.channel.lcid (record g { line = lines.Bearer c options } ∷ past)) → (l : ℕ) (past : List Group)
-      (c : BearerConfig) → KeepsOrder past → K c.kind → config_of l past ≡ Some c → is_forged past ≡ false → P l past
+  pub lives_behind : (K : Kind → Type 0)
+      → ((past : List Group) (c : BearerConfig) → Comes c past → K c.kind → P c.channel.lcid past)
+      → (l : ℕ) (past : List Group) (c : BearerConfig) → KeepsOrder past → K c.kind → config_of l past ≡ Some c
+      → is_forged past ≡ false → P l past
   lives_behind K begins =
       behind_all (λ l c past. is_forged past ≡ false → P l past) (λ c. K c.kind)
-      (λ past g c options right order kind own. begins past g c options right order kind)
+      (λ past g c options right order kind own. begins _ c (comes past g c options right order) kind)
       (λ l c past g right order other before d own.
       let apart = both_false (forges g.line) (is_forged past) own in
       line_by (is_handover g.line) l past g refl other right order apart.0 (d apart.1))

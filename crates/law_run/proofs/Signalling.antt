@@ -13,9 +13,8 @@ use Rattle.air_record.specs.declared.line.Line.{Line}
 use Rattle.air_record.specs.declared.line.Line.TheVariants as lines
 use Rattle.air_record.specs.declared.record.Record.{Record}
 use Rattle.air_record.specs.declared.record.Record.TheVariants as records
-use Rattle.air_run.specs.Playing.{keys_or_none, acted}
+use Rattle.air_run.specs.Playing.{keys_or_none}
 use Rattle.air_record.specs.Cells.{next_keys}
-use Rattle.air_run.specs.Rules.{accepted}
 use Rattle.air_run.specs.Run.{behind_line}
 use Rattle.air_text.specs.Groups.{Group, history}
 use Rattle.bearer.specs.Acknowledged.State.{State}
@@ -34,14 +33,11 @@ use Rattle.l2_node.specs.Sums.{is_drained as end_drained}
 use Rattle.l2_types.specs.declared.channel.Kind.TheVariants.{Srb}
 use Rattle.l2_types.specs.declared.side.Side.{Side}
 use Rattle.l2_types.specs.declared.side.Side.TheVariants.{Nb, Ue}
-use Rattle.law_node.specs.Calls.{Add, after as after_call}
 use Rattle.law_node.specs.Holding.{flow}
 use Rattle.promises.specs.Records.{events_of, ups_in, is_of_air}
 use Rattle.law_run.proofs.AnyCalls.Going.{told_both}
-use Rattle.prioritise.proofs.ChannelLemmas.{both_false}
 use Rattle.law_run.specs.TwoEnds.Going.{GoesByAir}
 use Rattle.law_run.specs.TwoEnds.Staying.{AreInLife}
-use Rattle.law_run.proofs.TwoEnds.Lives.{channels_begin}
 use Rattle.law_run.proofs.TwoEnds.Staying.{LivesAnew, lives_anew}
 use Rattle.law_deliver.specs.SrbChannel.Running.{Life, running, first_life}
 use Rattle.law_deliver.proofs.SrbChannel.Laws.{Living, first_living, all_live}
@@ -64,9 +60,8 @@ use Rattle.law_run.specs.Order.{state_behind, IsRight, KeepsOrder}
 use Rattle.promises.specs.Signalling.{submitted_since, delivered_since, losses_since, SignalAll, DeliversEachLife}
 use Rattle.promises.specs.Signalling.{LeavesNoSignal, DrainsLeaveNoSignal, BringsNoSignal, HandoversBringNoSignal}
 use Rattle.promises.specs.Configs.{config_of}
-use Rattle.law_run.proofs.BearerWalk.{is_first, at_each, adds_one}
+use Rattle.law_run.proofs.BearerWalk.{adds_one, Comes}
 use Rattle.law_run.proofs.Delivering.{ups_are_told, ups_told}
-use Rattle.law_run.proofs.Early.{is_early}
 use Rattle.law_run.proofs.EmptyLists.{parts_empty, empty_if}
 use Rattle.law_run.proofs.Failed.{HasSender, sender_goes, sender_begins}
 use Rattle.law_run.proofs.DrainBegins.{none_forged}
@@ -291,34 +286,22 @@ none_delivered side l (g ∷ past) e =
 
 -- ---- the line in which its bearers come
 
-begin_by : (past : List Group) (g : Group) (c : BearerConfig) (options : _)
-    → IsRight past (record g { line = lines.Bearer c options }) → KeepsOrder past → c.kind ≡ Srb
-    → IsSignalling c.channel.lcid (record g { line = lines.Bearer c options } ∷ past)
-unfolding acted accepted begins_renewed
-begin_by past g c options right order kind =
+begin_by : (past : List Group) (c : BearerConfig) → Comes c past → c.kind ≡ Srb → IsSignalling c.channel.lcid past
+unfolding begins_renewed
+begin_by past c x kind =
     let l = c.channel.lcid in
-    let r = (state_behind past).rules in
     let k = link_behind past in
-    let keys = keys_or_none r.keys in
-    let f = is_first c options r k right.allowed in
-    let here = both_false _ _ f.none in
-    let all : List Group = record g { line = lines.Bearer c options } ∷ past in
-    let now' = is_early all (right, order) f.early in
-    let rest = (is_early past order f.early).rest in
-    let nb_begun = channels_begin c keys k right.in_range rest Nb here.0 in
-    let ue_begun = channels_begin c keys k right.in_range rest Ue here.1 in
-    let count = right.count in
+    let few = x.first in
     record {
-      life = begins_renewed past g c options right order (inr kind);
+      life = begins_renewed past c x (inr kind);
       near = _;
       far = _;
-      begun = starts_first l c keys (after_call k.nb (Add c keys)) (after_call k.ue (Add c keys)) kind
-          (omega (arith, count)) nb_begun ue_begun;
-      delivered_is = λ side. none_delivered side l all (ups_told side l all ∙ ap (ups_on l) (now'.none_told side));
-      lost_is = λ side. ap (losses_on l) (now'.none_told side);
-      passed_is = λ from. none_passed own_bits l from all (now'.none_happened own_bits l from);
-      senders = at_each (λ side. HasSender side l _) (sender_begins Nb l c keys _ nb_begun)
-          (sender_begins Ue l c keys _ ue_begun);
+      begun = starts_first l c x.keys k.nb k.ue kind (omega (arith, few)) (x.begun Nb) (x.begun Ue);
+      delivered_is = λ side.
+          none_delivered side l past (ups_told side l past ∙ ap (ups_on l) (x.early.none_told side));
+      lost_is = λ side. ap (losses_on l) (x.early.none_told side);
+      passed_is = λ from. none_passed own_bits l from past (x.early.none_happened own_bits l from);
+      senders = λ side. sender_begins side l c x.keys past (x.begun side);
     }
 
 -- ---- behind all groups

@@ -1,15 +1,12 @@
 -- In one life the steps of a channel go on, and a handover begins the next one.
 use Rattle.std.proofs.Common.{◌≡◌, ℕ, Bool, false, ◌||◌, List, [], ◌++◌, refl, ap, sym, subst, ◌∙◌}
-use Rattle.air_link.specs.Lines.{bears}
 use Rattle.air_link.specs.Link.{Link}
 use Rattle.air_record.specs.declared.record.Record.{Record}
-use Rattle.bearer_types.specs.Configs.{IsConfig}
-use Rattle.bearer_types.specs.declared.config.BearerConfig.{BearerConfig}
 use Rattle.eps_sec.specs.declared.Keys.{Keys}
 use Rattle.l2_node.specs.End.{End}
 use Rattle.l2_types.specs.declared.side.Side.{Side}
-use Rattle.law_node.specs.Calls.{Add, Move, after as after_call}
-use Rattle.law_run.specs.AnyCalls.Calls.{Bears, HandsOver}
+use Rattle.law_node.specs.Calls.{Move, after as after_call}
+use Rattle.law_run.specs.AnyCalls.Calls.{HandsOver}
 use Rattle.law_run.specs.AnyCalls.Runs.{Step, Calls, step}
 use Rattle.law_deliver.specs.AmFlow.Air.{Air, outset}
 use Rattle.law_words.specs.Arrivals.{AccountEntry}
@@ -19,14 +16,12 @@ use Rattle.law_run.specs.TwoEnds.Arrival.{told_by_step}
 use Rattle.law_deliver.specs.UmGaps.Whats.{whats}
 use Rattle.law_run.specs.TwoEnds.Going.{handed_in, sets, TellAlone, GoesByAir, IsStepSince}
 use Rattle.promises.specs.Flows.{looped_at}
-use Rattle.law_run.specs.TwoEnds.Lives.{IsAtRest}
 use Rattle.law_run.specs.TwoEnds.On.{IsOn}
 use Rattle.law_run.specs.TwoEnds.Staying.{AreInLife, is_handover_step, MovesOn}
 use Rattle.law_run.proofs.TwoEnds.Advancing.{steps_stay, handovers_move}
 use Rattle.promises.specs.Arrival.{entries_in}
 use Rattle.law_run.proofs.TwoEnds.Going.{setting, Unread, Whats, GoesBehind, behind_then, happens_then}
-use Rattle.law_run.proofs.TwoEnds.Coming.{either_off, ends_come_by, come_as, come_by_none}
-use Rattle.law_run.proofs.TwoEnds.Lives.{calls_rest}
+use Rattle.law_run.proofs.TwoEnds.Coming.{either_off, ends_come_by, come_as}
 
 -- since both ends were these, in one life, a link has come by air to what it is
 pub record LivedIn (l : ℕ) (nb ue : End) (told : List Record) (submitted : Side → ℕ → List (List ℕ)) (said : ℕ → Side
@@ -136,17 +131,6 @@ steps_live_in l nb ue told submitted said set s k g own h =
     }
 
 -- ---- where a life begins
-
-pub bearers_live_in : (config : BearerConfig) (keys : Keys) (k : Link) → IsConfig config → IsAtRest k
-    → LivedIn config.channel.lcid (after_call k.nb (Add config keys)) (after_call k.ue (Add config keys)) []
-    (λ side n. []) (λ bits from. []) false (bears config keys k)
-unfolding bears
-bearers_live_in config keys k g h = record {
-  by = come_by_none config.channel.lcid (bears config keys k)
-      (outset (after_call k.nb (Add config keys)) (after_call k.ue (Add config keys)))
-      (calls_rest (Bears config keys) k g tt h);
-  in_life = tt;
-}
 
 pub record LivesAnew (l : ℕ) (nb ue : End) (keys : Keys) (k : Link) (a : Air) : Type 0 where
   pub moves : MovesOn l keys k a
