@@ -356,11 +356,11 @@ module _ (kind : PdcpKind) (p : Protection) (first : ℕ) where
   restarted_next bits e keys k = owing_next (report_of e.kind e.rx) (restarted_sending e.tx keys)
       ∙ ap (λ (x : PdcpKind). next_from x e.tx.next) k
 
-  record LifeLeaves (b : State) (keys : Keys) : Type 0 where
-    reached : WasReached kind p first (restarts b keys).pdcp.tx
-    next : (restarts b keys).pdcp.tx.next ≡ b.pdcp.tx.next
+  pub record LifeLeaves (b : State) (keys : Keys) : Type 0 where
+    pub reached : WasReached kind p first (restarts b keys).pdcp.tx
+    pub next : (restarts b keys).pdcp.tx.next ≡ b.pdcp.tx.next
 
-  life_leaves : (bits l : ℕ) (b : State) (keys : Keys) → IsSteady bits l b → WasReached kind p first b.pdcp.tx
+  pub life_leaves : (bits l : ℕ) (b : State) (keys : Keys) → IsSteady bits l b → WasReached kind p first b.pdcp.tx
       → LifeLeaves b keys
   life_leaves bits l b keys h r =
       let x = restarts_as (Am b) b.pdcp keys refl in

@@ -8,30 +8,26 @@ use Rattle.bearer.specs.Acknowledged.State.{State as Bearer}
 use Rattle.bearer.specs.declared.flow.Flow.{Flow}
 use Rattle.bearer.specs.declared.flow.Flow.TheVariants.{Am}
 use Rattle.bearer_pdcp.specs.Ends.{Ends}
-use Rattle.bearer_pdcp.specs.Lives.{restarted as restarted_pdcp, owing_report, report_of}
-use Rattle.eps_sec.specs.declared.Keys.{Keys}
 use Rattle.l2_num.specs.Ascending.{AreBetween}
 use Rattle.law_bearer.specs.AmBearer.Lives.{restarts}
 use Rattle.law_bearer.specs.AnyBearer.Calls.{Call, Step as BearerStep, Calls as CallsIt, Restart as Restarts, after}
 use Rattle.law_bearer.specs.AnyBearer.Calls.{goes as bearer_goes, ends, run_bearer}
 use Rattle.law_bearer.specs.AnyBearer.Queue.{news, all_news}
 use Rattle.law_bearer.specs.AnyBearer.Stream.{takes, all_taken}
-use Rattle.law_bearer.proofs.AnyBearer.Flows.{called as call_goes, restarts_as}
-use Rattle.law_bearer.proofs.AnyBearer.Parts.{pdcp_restarts}
+use Rattle.law_bearer.proofs.AnyBearer.Flows.{called as call_goes}
 use Rattle.law_bearer.proofs.AnyBearer.Sender.{Doings, doings, AreOfLife}
 use Rattle.law_deliver.specs.AmFlow.Pair.{called}
 use Rattle.law_deliver.proofs.AmChannel.Bearers.{IsSteady, called_steady, restarts_steady}
 use Rattle.law_deliver.proofs.AmChannel.Choosing.{marks, WasReached, reached_more, takes_told}
+use Rattle.law_deliver.proofs.AmChannel.Leaving.{life_leaves}
 use Rattle.law_deliver.proofs.AmFlow.Sending.{is_called}
 use Rattle.law_pdcp.specs.OneEnd.Lives.{Step, Calls, SetDiscard, Restart, goes, run_pdcp_sender}
 use Rattle.law_pdcp.proofs.OneEnd.Lives.{lives_are_ordered}
 use Rattle.pdcp_pdu.specs.declared.pdu.PdcpKind.{PdcpKind}
-use Rattle.pdcp_pdu.specs.declared.pdu.PdcpKind.TheVariants.{Am as AmKind}
 use Rattle.pdcp_sec.specs.Protection.{Protection}
 use Rattle.pdcp_tx.specs.Runs.{Submit, Take, Confirm, Report, Owe, Tick, Late, IsOrdered}
 use Rattle.pdcp_tx.specs.State.{State, Offer, offers, owed_offers, again_offer, new_offers, submitted, took, took_owed}
 use Rattle.pdcp_tx.specs.State.{took_again, took_new, confirmed, reported, reported_from, fms_count, after_late}
-use Rattle.pdcp_tx.specs.State.{next_from, restarted as restarted_sending}
 use Rattle.pdcp_tx_store.specs.Waiting.{Waits}
 use Rattle.pdcp_tx_store.specs.declared.given.Sent.{Sent}
 use Rattle.law_run.proofs.WaitingSdus.Counting.{InTurn}
@@ -135,39 +131,6 @@ module _ (kind : PdcpKind) (p : Protection) (first : ℕ) where
             (subst (λ (d : Doings). Turns b.pdcp.tx d.taken n) (sym m.did) u);
       }
 
-  -- the next life
-  owing_next : (o : Option (List ℕ)) (s : State) → (owing_report o s).next ≡ s.next
-  owing_next None s = refl
-  owing_next (Some report) s = refl
-
-  restarted_next : (bits : ℕ) (e : Ends) (keys : Keys) → e.tx.kind ≡ AmKind bits
-      → (restarted_pdcp e keys).tx.next ≡ e.tx.next
-  unfolding restarted_pdcp restarted_sending
-  restarted_next bits e keys k = owing_next (report_of e.kind e.rx) (restarted_sending e.tx keys)
-      ∙ ap (λ (x : PdcpKind). next_from x e.tx.next) k
-
-  record LifeTurns (b : Bearer) (keys : Keys) : Type 0 where
-    reached : WasReached kind p first (restarts b keys).pdcp.tx
-    next : (restarts b keys).pdcp.tx.next ≡ b.pdcp.tx.next
-
-  life_turns : (bits l : ℕ) (b : Bearer) (keys : Keys) → IsSteady bits l b → WasReached kind p first b.pdcp.tx
-      → LifeTurns b keys
-  life_turns bits l b keys h r =
-      let x = restarts_as (Am b) b.pdcp keys refl in
-      let one = restarts_steady bits l b keys h in
-      let some : Some (restarted_pdcp x.between keys) ≡ Some (restarts b keys).pdcp = sym x.after ∙ ap ends one.left in
-      let same : restarted_pdcp x.between keys ≡ (restarts b keys).pdcp = cc in
-      let m = (pdcp_restarts x.between keys).tx in
-      let was : WasReached kind p first x.between.tx = subst (WasReached kind p first) (sym x.ended.tx) r in
-      record {
-        reached = subst (λ (e : Ends). WasReached kind p first e.tx) same
-            (subst (WasReached kind p first) (sym m.left) (reached_more kind p first x.between.tx m.steps was));
-        next =
-            ap (λ (e : Ends). e.tx.next) (sym same)
-            ∙ restarted_next bits x.between keys (ap (λ (s : State). s.kind) x.ended.tx ∙ h.data'.sending)
-            ∙ ap (λ (s : State). s.next) x.ended.tx;
-      }
-
   -- ---- through lives
 
   pub record Through (bits l : ℕ) (xs : List BearerStep) (b : Bearer) : Type 0 where
@@ -215,7 +178,7 @@ module _ (kind : PdcpKind) (p : Protection) (first : ℕ) where
   through bits l (Restarts keys ∷ xs) b h r =
       let s = restarts_steady bits l b keys h in
       let d = restarts b keys in
-      let one = life_turns bits l b keys h r in
+      let one = life_leaves kind p first bits l b keys h r in
       let rest = through bits l xs d s.steady one.reached in
       let all = ap (λ (f : Flow). length (all_news f xs)) s.left in
       let first = one.next in
