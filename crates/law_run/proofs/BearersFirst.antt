@@ -1,7 +1,6 @@
 -- A `bearer` line stands before all records, and is the only one of its channel.
-use Rattle.std.proofs.Common.{◌≡◌, ℕ, ◌==◌, false, Option, Some, None, is_some, List, [], ◌∷◌}
-use Rattle.std.proofs.Common.{refl, ap, sym, subst, ◌∙◌}
-use Rattle.std.specs.List.{AllByRecursion, list_any}
+use Rattle.std.proofs.Common.{◌≡◌, ℕ, false, Option, Some, None, is_some, List, [], ◌∷◌, refl, subst, ◌∙◌}
+use Rattle.std.specs.List.{AllByRecursion}
 use Rattle.air_link.specs.Link.{end_of}
 use Rattle.air_record.specs.declared.line.Line.{Line}
 use Rattle.air_record.specs.declared.line.Line.TheVariants as lines
@@ -12,11 +11,10 @@ use Rattle.l2_node.specs.Finding.{has}
 use Rattle.l2_types.specs.declared.side.Side.TheVariants.{Nb}
 use Rattle.promises.specs.Bearers.{IsEarly, BeginsFirst, BearersBeginFirst}
 use Rattle.promises.specs.Configs.{config_of}
-use Rattle.promises.specs.Order.{Channels}
 use Rattle.law_run.specs.Order.{state_behind, IsRight, KeepsOrder}
 use Rattle.law_run.proofs.Counts.{was_absent}
 use Rattle.law_run.proofs.BearerWalk.{is_first}
-use Rattle.law_run.proofs.DrainChannels.{has_listed, config_listed, end_channels}
+use Rattle.law_run.proofs.DrainChannels.{bearers_are}
 use Rattle.law_run.proofs.Early.{configures, unbegun, is_early}
 use Rattle.law_run.proofs.Past.{link_behind}
 
@@ -40,12 +38,7 @@ none_some (Some config) e = absurd cc
 
 unconfigured : (l : ℕ) (past : List Group) → KeepsOrder past → has l (end_of Nb (link_behind past)).bearers ≡ false
     → config_of l past ≡ None
-unconfigured l past order absent =
-    let e = end_of Nb (link_behind past) in
-    none_some (config_of l past)
-    (config_listed l past
-    ∙ ap (λ (c : Channels). list_any (λ n. l == n) c.by_lcid) (sym (end_channels Nb past order))
-    ∙ sym (has_listed l e) ∙ absent)
+unconfigured l past order absent = none_some (config_of l past) (bearers_are Nb l past order ∙ absent)
 
 begins_first : (past : List Group) (g : Group) (line : Line) → g.line ≡ line → IsRight past g → KeepsOrder past
     → BeginsFirst line past

@@ -130,7 +130,7 @@ unfolding accepted
 line_forges (lines.Forge side octets) r = refl
 line_forges line r = refl
 
-forged_is : (past : List Group) → is_forged past ≡ (state_behind past).rules.forged
+pub forged_is : (past : List Group) → is_forged past ≡ (state_behind past).rules.forged
 unfolding fresh no_rules
 forged_is [] = refl
 forged_is (g ∷ past) = ap (λ (b : Bool). forges g.line || b) (forged_is past)

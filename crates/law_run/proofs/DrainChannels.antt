@@ -150,6 +150,14 @@ pub end_channels : (side : Side) (past : List Group) → KeepsOrder past
 end_channels Nb past order = (channels_behind past order).nb.told_are
 end_channels Ue past order = (channels_behind past order).ue.told_are
 
+-- so it has one exactly where a line brought one
+pub bearers_are : (side : Side) (l : ℕ) (past : List Group) → KeepsOrder past
+    → is_some (config_of l past) ≡ has l (end_of side (link_behind past)).bearers
+bearers_are side l past order =
+    config_listed l past
+    ∙ ap (λ (c : Channels). list_any (λ n. l == n) c.by_lcid) (sym (end_channels side past order))
+    ∙ sym (has_listed l (end_of side (link_behind past)))
+
 -- ---- a transparent channel stands first
 
 pub record MayStandFirst (d : Channel) : Type 0 where

@@ -23,6 +23,7 @@ use Rattle.law_run.proofs.RightForm.{form_is_right}
 use Rattle.law_run.proofs.Reaching.{come_by_calls}
 use Rattle.law_run.proofs.Meeting.{none_meet}
 use Rattle.law_run.proofs.NumbersSent.{numbers_are_sent}
+use Rattle.law_run.proofs.RulesKept.{lines_keep_rules}
 use Rattle.law_run.proofs.Silent.{failed_are_silent}
 use Rattle.law_run.proofs.Taking.{takes_name, sdus_leave_in_order, signals_leave_in_order}
 use Rattle.law_run.proofs.Signalling.{delivers_each_life, drains_leave_no_signal, handovers_bring_none}
@@ -41,6 +42,7 @@ every-journal whole octets =
       lines_are = t.lines_are;
       ascend = lines_ascend whole octets (journal_of whole octets).close t.later t.lines_are;
       order = t.order;
+      rules = lines_keep_rules t.later t.order;
       bearers = bearers_begin_first t.later t.order;
       in_turn = (behind t.later t.order).in_turn;
       sleeps = sleeps_behind_drx t.later t.order;

@@ -121,7 +121,7 @@ over_same lcid (c ∷ cs) ks free = over_same lcid cs (kinds_in c ks) free.1 ∙
 
 -- ---- each bearer of an end is known as what it is
 
-has_place : (kind : Kind) (lcid : ℕ) → IsChannelOf kind lcid → lcid < 11
+pub has_place : (kind : Kind) (lcid : ℕ) → IsChannelOf kind lcid → lcid < 11
 has_place kinds.Tm lcid i = omega (arith, i)
 has_place kinds.Srb lcid i = omega (arith, i.1)
 has_place kinds.Um lcid i = omega (arith, i.1)

@@ -66,6 +66,7 @@ pub mod FewVisits
 pub mod BearersFirst
 pub mod LinesAscend
 pub mod CountsTold
+pub mod RulesKept
 pub mod Everything
 pub mod DrainFlows
 pub mod DrainLinks

@@ -248,6 +248,10 @@ loops_behind (g ∷ past) (right, order) =
 pub return_in_order : (past : List Group) → KeepsOrder past → ReturnInOrder past
 return_in_order past order = (loops_behind past order).in_order
 
+-- its mode is that of the last `loop` line
+pub mode_behind : (past : List Group) → KeepsOrder past → (link_behind past).looping.mode ≡ mode_in_force past
+mode_behind past order = (loops_behind past order).mode_is
+
 -- and nothing waits in the loop, nor is kept where it keeps nothing
 pub at_rest : (past : List Group) → KeepsOrder past → IsAtRest (link_behind past)
 at_rest past order = (loops_behind past order).rests

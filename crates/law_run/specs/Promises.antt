@@ -18,6 +18,7 @@ use Rattle.promises.specs.HalfWindow.{TakesStayInHalf}
 use Rattle.promises.specs.Keys.{all_keys}
 use Rattle.law_words.specs.Lists.{AreDistinct}
 use Rattle.promises.specs.Limits.{QueuesAreShort}
+use Rattle.promises.specs.LineRules.{LinesKeepRules}
 use Rattle.promises.specs.Loops.{ReturnInOrder}
 use Rattle.promises.specs.OwnPdus.{PdusAreOwn}
 use Rattle.law_run.specs.Losses.{DeliversWhileShort}
@@ -47,6 +48,8 @@ pub record IsPromised (whole : Bool) (octets : List ℕ) (played : RunPlayed) : 
   -- so the numbers of its lines grow, as a checker of any journal asks it
   pub ascend : LinesAscend past
   pub order : KeepsOrder past
+  -- each line keeps the rules of scripts, as a checker asks it of any journal
+  pub rules : LinesKeepRules past
   -- each bearer's line stands before all records, and is the only one of its channel
   pub bearers : BearersBeginFirst past
   -- its TTIs are numbered from 0 on, each once
