@@ -16,7 +16,6 @@ use Rattle.law_run.specs.DrainRounds.{MayDrain}
 use Rattle.law_run.proofs.AnyCalls.Passing.{drain_adds}
 use Rattle.law_node.specs.Holding.{flow}
 use Rattle.promises.specs.Air.{is_tti}
-use Rattle.promises.specs.Delivery.{is_forged}
 use Rattle.promises.specs.Drained.{is_drain, EndsDrained, DrainsEnd}
 use Rattle.promises.specs.Order.{Channels}
 use Rattle.law_run.specs.DrainBudget.{HaveCounts}
@@ -37,9 +36,9 @@ use Rattle.law_run.proofs.Ttis.{round_adds, drained_adds}
 
 -- ---- the bearers that lines brought
 
-pub links_have_counts : (past : List Group) → KeepsOrder past → is_forged past ≡ false
+pub links_have_counts : (past : List Group) → KeepsOrder past
     → AllByRecursion (HaveCounts (link_behind past)) (lcids past)
-links_have_counts past order own = all_listed (HaveCounts (link_behind past)) (lcids past) one
+links_have_counts past order = all_listed (HaveCounts (link_behind past)) (lcids past) one
   where
     one : (l : ℕ) → is_listed l (lcids past) ≡ true → HaveCounts (link_behind past) l
     one l here =
@@ -61,7 +60,7 @@ begun_ends past g order m =
     let some = m.some in
     let b =
     lines_have_budgets 8 m.grant k (lcids past) (omega (arith, some), m.few) m.may (lcids_ascend past order) on
-    (links_have_counts past order m.unforged) in
+    (links_have_counts past order) in
     let within = b.within in
     rounds_end past m.grant (budget k) order m.unforged m.may m.some m.few b.measured (omega (arith, within))
 

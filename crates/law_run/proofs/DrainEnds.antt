@@ -462,13 +462,13 @@ rounds_end past grant n order own may some few h less =
 -- ---- what a signalling bearer's PDCP keeps
 
 pub links_keep_no_signalling : (past : List Group) (side : Side) (l : ℕ) (b : State) → KeepsOrder past
-    → is_forged past ≡ false → has l (end_of side (link_behind past)).bearers ≡ true
+    → has l (end_of side (link_behind past)).bearers ≡ true
     → flow l (end_of side (link_behind past)) ≡ Am b → IsOfSignalling b → KeepsNone b.pdcp.tx
-links_keep_no_signalling past Nb l b order own there is signalling =
+links_keep_no_signalling past Nb l b order there is signalling =
     let c = has_config l past (link_behind past).nb (end_channels Nb past order) there in
     let t = links_track l past c.config order c.is in
     holds_none c.config.kind (flow l (link_behind past).nb) b is t.nb.of_kind signalling
-links_keep_no_signalling past Ue l b order own there is signalling =
+links_keep_no_signalling past Ue l b order there is signalling =
     let c = has_config l past (link_behind past).ue (end_channels Ue past order) there in
     let t = links_track l past c.config order c.is in
     holds_none c.config.kind (flow l (link_behind past).ue) b is t.ue.of_kind signalling

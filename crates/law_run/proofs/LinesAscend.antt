@@ -57,6 +57,7 @@ accepted-ascend whole octets close = by close
   where
     all : Ascend 1 (to_end (said_from 1 (texts whole octets)))
     all = to-end-ascend 1 (said_from 1 (texts whole octets)) (said-ascend 1 (texts whole octets))
+
     by : (close : RunClose) → Ascend 1 (before close (to_end (said_from 1 (texts whole octets))))
     by (Refused number reason) =
         filter-ascend (λ one. nat_lt one.number number) 1 (to_end (said_from 1 (texts whole octets))) all

@@ -28,7 +28,7 @@ use Rattle.promises.specs.Telling.{channels}
 
 abbrev pub LinksKeepNoSignalling : Type 0
 LinksKeepNoSignalling = (past : List Group) (side : Side) (l : ℕ) (b : State) → KeepsOrder past
-    → is_forged past ≡ false → has l (end_of side (state_behind past).link).bearers ≡ true
+    → has l (end_of side (state_behind past).link).bearers ≡ true
     → flow l (end_of side (state_behind past).link) ≡ Am b → IsOfSignalling b
     → KeepsNone b.pdcp.tx
 
@@ -58,7 +58,7 @@ LinksMayDrain = (past : List Group) (g : Group) → KeepsOrder (g ∷ past) → 
 
 -- and COUNTs have 32 bits (TS 36.323 7.1)
 abbrev pub LinksHaveCounts : Type 0
-LinksHaveCounts = (past : List Group) → KeepsOrder past → is_forged past ≡ false
+LinksHaveCounts = (past : List Group) → KeepsOrder past
     → AllByRecursion (HaveCounts (state_behind past).link) (lcids past)
 
 -- behind it both ends are drained, and it has at most as many rounds as its budget

@@ -30,8 +30,8 @@ pub fn links_never_rise()
     ensures rounds { LinksNeverRise }
 {}
 
-/// Whatever lines a link has played, of which none forges a block, PDCP of a signalling bearer
-/// keeps nothing of what it gave RLC, and its COUNTs end below their bound.
+/// Whatever lines a link has played, PDCP of a signalling bearer keeps nothing of what it gave RLC,
+/// and its COUNTs end below their bound.
 pub fn links_keep_no_signalling()
     ensures { LinksKeepNoSignalling }
 {}
@@ -53,8 +53,8 @@ pub fn budgets_suffice()
 {}
 
 /// Wherever a `drain` line is accepted the link may drain, whatever lines it has played: both ends
-/// have come so far by calls, with eight processes each way, and no loop is on. Where no block was
-/// forged, as there, the next COUNT of each bearer is at most 2^32. So both ends are drained behind
+/// have come so far by calls, with eight processes each way, and no loop is on. Whatever lines a
+/// link has played, the next COUNT of each bearer is at most 2^32. So both ends are drained behind
 /// the line, in no more rounds than its budget has.
 pub fn drains_end()
     ensures links { LinksMayDrain }
