@@ -6,10 +6,11 @@ pub fn lines_are_in_range()
 {}
 
 /// The journal of every script is the records of its accepted lines, each run where it stands, and
-/// the sums at its end. Said without the machine: its lines keep the rules of scripts; its TTIs, its
-/// blocks, its keys and COUNTs, what is told of each end, what the test loop returns and the order
-/// in which the records of each line stand are as promised. A sender that gave up sends no data PDU
-/// and gives up no more up to the next handover, and a sum tells of it exactly then.
+/// the sums at its end. Said without the machine: the numbers of its lines grow, and they keep the
+/// rules of scripts; its TTIs, its blocks, its keys and COUNTs, what is told of each end, what the
+/// test loop returns and the order in which the records of each line stand are as promised. A
+/// sender that gave up sends no data PDU and gives up no more up to the next handover, and a sum
+/// tells of it exactly then.
 /// In each life of an acknowledged data bearer the data PDUs that are told of as new have the
 /// numbers 0, 1, 2, .., and those that are sent again have some of the last 512.
 /// Where a first `take` or a `discard` of acknowledged data stands, an SDU waits that was submitted
