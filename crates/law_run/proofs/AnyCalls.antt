@@ -27,4 +27,5 @@ pub mod Channels
 pub mod Orders
 pub mod Readable
 pub mod Ordering
+pub mod Readying
 pub mod Standing

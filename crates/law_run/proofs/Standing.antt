@@ -35,7 +35,8 @@ use Rattle.law_run.proofs.AnyCalls.Advancing.{call_goes_on, drain_goes}
 use Rattle.law_run.proofs.AnyCalls.Channels.{channels_over, AreNew, channels_go, owns_on, known_channel}
 use Rattle.law_run.proofs.AnyCalls.Ordering.{leaves_then, leaves_nothing}
 use Rattle.law_run.proofs.AnyCalls.Passing.{drain_adds}
-use Rattle.law_run.proofs.AnyCalls.Standing.{Ready, both_ready_on, call_tells, expiry_tells, submissions_tell}
+use Rattle.law_run.proofs.AnyCalls.Readying.{Ready, both_ready_on}
+use Rattle.law_run.proofs.AnyCalls.Standing.{call_tells, expiry_tells, submissions_tell}
 use Rattle.law_run.proofs.AnyCalls.Standing.{tti_tells, drain_tells}
 use Rattle.pdu_show.specs.declared.kinds.Layout.{Layout}
 use Rattle.prioritise.specs.Shares.{no_channels}

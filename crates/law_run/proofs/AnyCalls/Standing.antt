@@ -2,7 +2,7 @@
 use Rattle.std.proofs.Common.{◌≡◌, ◌≤◌, ℕ, ◌==◌, Bool, true, false, if◌then◌else◌, Option, Some, None, IfSome, List, []}
 use Rattle.std.proofs.Common.{◌∷◌, ◌++◌, map, append-nil, refl, ap, sym, subst, inl, inr, ◌∙◌}
 use Rattle.std.specs.Prelude.{unwrap_or, is_none}
-use Rattle.air_link.specs.Downlink.{builds, built_ndi, block_at, sends, receives, hears, feeds, told_as, is_good}
+use Rattle.air_link.specs.Downlink.{builds, built_ndi, block_at, sends, hears, feeds, told_as, is_good}
 use Rattle.air_link.specs.Downlink.{answer, comes, hears_by, lands, unseen, down_order, down_by, downlink}
 use Rattle.air_record.specs.Outcomes.{turned, intact, missed}
 use Rattle.air_link.specs.Draining.{drain_tti, timer_expires, receiver_expires, all_receivers_expire, receivers_expire}
@@ -14,7 +14,7 @@ use Rattle.bearer_types.specs.Lcids.{all_lcids}
 use Rattle.bearer_types.specs.Sides.{other, sent_by, heard_by}
 use Rattle.air_link.specs.Loops.{loops, pays, loop_set}
 use Rattle.air_link.specs.Telling.{tells_all}
-use Rattle.air_link.specs.Ttis.{begins, sleeps, tells_sleep, grows, ticks, times, keeps_first, timed, tti_by, tti}
+use Rattle.air_link.specs.Ttis.{begins, sleeps, tells_sleep, grows, timed, tti_by, tti}
 use Rattle.air_link.specs.Uplink.{up_order, is_intact, told_as as up_told_as, granted, hears_if, aired as up_aired}
 use Rattle.air_link.specs.Uplink.{awake, up_by, answers, grants, passes, uplink}
 use Rattle.air_record.specs.declared.line.Fate.{Fate}
@@ -40,20 +40,19 @@ use Rattle.l2_bits.specs.declared.fault.SubmitRefusal.{SubmitRefusal}
 use Rattle.l2_node.specs.Building.{IsEnough, visit, visited, built, building, visit_events as building_by}
 use Rattle.l2_node.specs.End.{End}
 use Rattle.l2_node.specs.Finding.{has}
-use Rattle.l2_node.specs.Hearing.{received, ticked}
 use Rattle.l2_node.specs.Moving.{leaving}
 use Rattle.l2_node.specs.Submitting.{refusal}
 use Rattle.l2_types.specs.declared.event.Clock.{Clock}
 use Rattle.l2_types.specs.declared.event.Clock.TheVariants.{Poll, Reorder, Prohibit}
 use Rattle.l2_types.specs.declared.side.Side.{Side}
 use Rattle.l2_types.specs.declared.side.Side.TheVariants.{Nb, Ue}
-use Rattle.law_node.specs.Calls.{Tick, Visits as VisitsProcess, Grants, Granted, Receive, Expire, Move}
+use Rattle.law_node.specs.Calls.{Visits as VisitsProcess, Grants, Granted, Expire, Move}
 use Rattle.law_node.specs.Calls.{after as after_call}
 use Rattle.promises.specs.Events.{TellNoLoop}
 use Rattle.law_node.proofs.Looping.{tells_no_loop}
 use Rattle.pdu_show.specs.declared.kinds.Layout.{Layout}
 use Rattle.test_loop.specs.declared.Mode.{Mode}
-use Rattle.test_loop.specs.Loops.{is_keeping, after_tick, after_set}
+use Rattle.test_loop.specs.Loops.{after_set}
 use Rattle.law_run.specs.AnyCalls.Calls.{Call, Bears, Discards, Visits, Reports, Listens, Loops, Expires, Forges}
 use Rattle.law_run.specs.AnyCalls.Calls.{HandsOver, ReceiversExpire, SendersExpire, after}
 use Rattle.law_run.specs.AnyCalls.Ends.{GoesOn, IsGiven}
@@ -66,96 +65,19 @@ use Rattle.promises.specs.Order.{ReceiversTell, SenderTells, SendersTell, ForgeT
 use Rattle.promises.specs.Order.{SubmitTells}
 use Rattle.law_run.specs.AnyCalls.Zero.{HaveCome}
 use Rattle.law_run.proofs.AnyCalls.Advancing.{timer_rests}
-use Rattle.law_run.proofs.AnyCalls.Orders.{IsReady, ready_on, builds_in_order, hears_in_order, ticks_in_order}
+use Rattle.law_run.proofs.AnyCalls.Orders.{IsReady, ready_on, builds_in_order}
 use Rattle.law_run.proofs.AnyCalls.Orders.{expires_in_order, leaves_in_order}
-use Rattle.law_run.proofs.AnyCalls.Going.{by_one, Seen, told_seen, loops_rests, woken_rests, grown_rests}
+use Rattle.law_run.proofs.AnyCalls.Going.{by_one, Seen, loops_rests, woken_rests, grown_rests}
 use Rattle.law_run.proofs.AnyCalls.Ordering.{leaves_then, leaves_from, leaves_to, leaves_as, leaves_nothing, leaves_one}
-use Rattle.law_run.proofs.AnyCalls.Ordering.{may_leave, may_rest, end_out, end_tells, loop_then, loop_rests}
+use Rattle.law_run.proofs.AnyCalls.Ordering.{may_leave, may_rest, end_out, end_tells}
 use Rattle.law_run.proofs.AnyCalls.Ordering.{loops_tells, pays_tells}
 use Rattle.law_run.proofs.AnyCalls.Visiting.{sent, visit_records, builds_down, builds_up, came, came_by, comes_seen}
 use Rattle.law_run.proofs.AnyCalls.Visiting.{sent_down, sent_up, downlink_goes}
 use Rattle.law_run.proofs.AnyCalls.Readable.{CanRead, sent_reads}
 use Rattle.law_run.proofs.AnyCalls.Telling.{some_from}
 use Rattle.mac_pdu.specs.Reading.{reading}
-
--- ---- both ends with their channels, as they have come
-
-pub record Ready (c : Side → Channels) (l : Link) : Type 0 where
-  pub nb : IsReady Nb (c Nb) l.nb
-  pub ue : IsReady Ue (c Ue) l.ue
-
-ready_at : (side : Side) (c : Side → Channels) (l : Link) → Ready c l → IsReady side (c side) (end_of side l)
-ready_at Nb c l r = r.nb
-ready_at Ue c l r = r.ue
-
-pub have_ready : (l : Link) → HaveCome l → Ready (both l) l
-have_ready l h = record {
-  nb = record { come = h.nb; channels_are = refl };
-  ue = record { come = h.ue; channels_are = refl };
-}
-
-pub both_ready_on : (c : Side → Channels) (blocks : List Record) (l m : Link) → GoesOn blocks l m → Ready c l
-    → Ready c m
-both_ready_on c blocks l m g r =
-    record { nb = ready_on Nb (c Nb) g.more l.nb m.nb g.nb r.nb; ue = ready_on Ue (c Ue) g.more l.ue m.ue g.ue r.ue }
-
--- ---- what an end tells
-
-hears_tells : (side : Side) (c : Channels) (octets : List ℕ) (l : Link) → IsReady side c (end_of side l)
-    → Leaves (EndTells side (of_hearing c (heard_by side) octets)) l (hears side octets l)
-hears_tells side c octets l r =
-    let e = end_of side l in
-    let m = receives side octets l in
-    let of = of_hearing c (heard_by side) octets in
-    leaves_from (EndTells side of) l m (hears side octets l) (end_out side _ l)
-    (end_tells of side (received e octets).events m (tells_no_loop e (Receive octets))
-    (hears_in_order side c e r octets))
-
--- ---- timers
-
-times_tells : (side : Side) (c : Channels) (l : Link) → IsReady side c (end_of side l)
-    → Leaves (EndTells side (of_timers c)) l (times side l)
-times_tells side c l r =
-    let e = end_of side l in
-    let es = (ticked e).events in
-    let m = ticks side l in
-    let n = tells_all side es m in
-    leaves_to (EndTells side (of_timers c)) l n (times side l) (end_out side _ n)
-    (leaves_from (EndTells side (of_timers c)) l m n (end_out side _ l)
-    (end_tells (of_timers c) side es m (tells_no_loop e Tick) (ticks_in_order side c e r)))
-
--- the terminal's end is the same behind the base station's timers
-pub times_base : (l : Link) → (times Nb l).ue ≡ l.ue
-times_base l = ap (λ (s : Seen). s.ue) (told_seen Nb (ticked l.nb).events (ticks Nb l))
-
-pub keeps_if : (b : Bool) (l : Link) → Leaves LoopTells l (if b then loops l else l)
-keeps_if true l = loops_tells l
-keeps_if false l = loop_rests l l refl
-
--- with what stands behind them
-timed_then : (c : Side → Channels) (Rest : OfRecords) (l last : Link) → Ready c l → Leaves Rest (timed l) last
-    → Leaves (EndTells Nb (of_timers (c Nb)) then EndTells Ue (of_timers (c Ue)) then LoopTells then Rest) l last
-unfolding timed
-timed_then c Rest l last r rest =
-    let j : Link = record l { looping = after_tick l.looping } in
-    let m = times Nb j in
-    let n = times Ue m in
-    let o = keeps_first n in
-    let Base = EndTells Nb (of_timers (c Nb)) in
-    let Terminal = EndTells Ue (of_timers (c Ue)) in
-    let to_m = leaves_from Base l j m refl (times_tells Nb (c Nb) j r.nb) in
-    let to_n = times_tells Ue (c Ue) m (subst (λ (e : End). IsReady Ue (c Ue) e) (sym (times_base j)) r.ue) in
-    let to_o = loop_then n o (pays o) (keeps_if (is_keeping n.looping.mode) n) (pays_tells o) in
-    leaves_then Base (Terminal then LoopTells then Rest) l m last to_m
-    (leaves_then Terminal (LoopTells then Rest) m n last to_n
-    (leaves_then LoopTells Rest n (pays o) last to_o rest))
-
-sleep_tells : (asleep : Bool) (l : Link) → Leaves (maybe (just records.Sleep)) l (tells_sleep asleep l)
-sleep_tells true l = may_leave (just records.Sleep) l (says records.Sleep l) (leaves_one records.Sleep l)
-sleep_tells false l = may_rest (just records.Sleep) l l refl
-
-begins_tells : (l : Link) → Leaves (just (records.Tti l.ttis)) l (begins l)
-begins_tells l = leaves_as (just (records.Tti l.ttis)) l (begins l) (records.Tti l.ttis ∷ []) refl refl
+use Rattle.law_run.proofs.AnyCalls.Readying.{Ready, ready_at, have_ready, both_ready_on, hears_tells, timed_then}
+use Rattle.law_run.proofs.AnyCalls.Readying.{sleep_tells, begins_tells}
 
 -- ---- a block goes out
 

@@ -25,7 +25,8 @@ use Rattle.law_run.specs.TwoEnds.Going.{IsStepSince, handed_in}
 use Rattle.law_run.specs.TwoEnds.On.{IsOn}
 use Rattle.law_run.proofs.AnyAir.{at_end, by_steps}
 use Rattle.law_run.proofs.AnyCalls.Advancing.{call_goes_on, drain_goes}
-use Rattle.law_run.proofs.AnyCalls.Standing.{Ready, both_ready_on, call_tells}
+use Rattle.law_run.proofs.AnyCalls.Readying.{Ready, both_ready_on}
+use Rattle.law_run.proofs.AnyCalls.Standing.{call_tells}
 use Rattle.law_run.proofs.Standing.{shown_ready}
 use Rattle.law_run.proofs.TwoEnds.Coming.{same_on, come_by_none, steps_come}
 use Rattle.law_run.proofs.WaitingSdus.Calm.{IsCalm, calm_receivers, calm_senders}

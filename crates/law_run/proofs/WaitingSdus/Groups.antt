@@ -51,7 +51,7 @@ use Rattle.law_run.specs.Order.{state_behind, IsRight, KeepsOrder}
 use Rattle.law_run.specs.TwoEnds.On.{IsOn}
 use Rattle.law_run.proofs.AnyAir.{line_plays}
 use Rattle.law_run.proofs.AnyCalls.Going.{told_both}
-use Rattle.law_run.proofs.AnyCalls.Standing.{Ready}
+use Rattle.law_run.proofs.AnyCalls.Readying.{Ready}
 use Rattle.law_run.proofs.BearerWalk.{adds_one, comes, behind_all}
 use Rattle.law_run.proofs.Past.{behind, link_behind}
 use Rattle.law_run.proofs.Standing.{channels_behind, lines_tell}

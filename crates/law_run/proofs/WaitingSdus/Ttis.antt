@@ -27,7 +27,8 @@ use Rattle.law_run.specs.AnyCalls.Order.{Leaves}
 use Rattle.law_run.proofs.AnyCalls.Going.{Seen, told_seen, told_both, own_told, other_told, woken_rests}
 use Rattle.law_run.proofs.AnyCalls.Ordering.{leaves_then, leaves_as, loop_then}
 use Rattle.law_run.proofs.AnyCalls.Ordering.{pays_tells}
-use Rattle.law_run.proofs.AnyCalls.Standing.{Ready, keeps_if, times_base, both_fly, drain_tells}
+use Rattle.law_run.proofs.AnyCalls.Readying.{Ready, keeps_if, times_base}
+use Rattle.law_run.proofs.AnyCalls.Standing.{both_fly, drain_tells}
 use Rattle.law_run.proofs.TwoEnds.Stages.{events_unlooped}
 use Rattle.law_run.proofs.WaitingSdus.Calm.{calm_both, calm_loop, downlink_calm, uplink_unlooped, unlooped_both, untold}
 use Rattle.law_run.proofs.WaitingSdus.Walking.{Parts}
