@@ -3,4 +3,5 @@ pub mod Failures
 pub mod Hearing
 pub mod Records
 pub mod Ends
+mod OneSender
 pub mod Exact
