@@ -47,7 +47,8 @@ use Rattle.journal_edge.proofs.Taking.{kept_whole}
 use Rattle.journal_edge.proofs.Walks.{AreRead, all_read_so}
 use Rattle.journal_edge.proofs.Inside.{reader_at, SlotIn, SlotFor, slot_step, Rest, IsAtRest, Inside, IsInside}
 use Rattle.journal_edge.proofs.Inside.{taken_first}
-use Rattle.journal_edge.proofs.Inside.{reader_first, renewal_in, line_step, records_step}
+use Rattle.journal_edge.proofs.Inside.{reader_first, renewal_in, line_step}
+use Rattle.journal_edge.proofs.Records.{records_step}
 
 -- ---- what a flow has read as the group ends
 

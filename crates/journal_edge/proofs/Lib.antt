@@ -5,4 +5,5 @@ pub mod Walks
 pub mod Living
 pub mod Edges
 pub mod Inside
+mod Records
 pub mod Exact
