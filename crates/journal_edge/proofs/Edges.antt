@@ -19,7 +19,7 @@ use Rattle.journal_um.specs.UmEvents.{running}
 use Rattle.journal_um.specs.UmNumbers.{pdu_of, is_accepted}
 use Rattle.journal_um.specs.UmSdus.{row_below, sdus_in, joined_in, all_joined_in, handed_before, handed_in}
 use Rattle.journal_um.specs.UmWindow.{width_of}
-use Rattle.journal_flows.specs.Gathering.{Journal, MayTake, behind, behind_line, behind_records, behind_end, within}
+use Rattle.journal_flows.specs.Gathering.{Journal, MayTake, behind, behind_line, behind_end, within}
 use Rattle.journal_flows.specs.Gathering as gathering
 use Rattle.journal_flows.specs.FlowsTold.{Histories, histories, no_events, um_flows_told, um_flows_within}
 use Rattle.journal_flows.specs.Laws.{begins_on}
