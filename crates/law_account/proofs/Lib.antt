@@ -1,0 +1,5 @@
+pub mod Numbers
+pub mod Sending
+pub mod Naming
+pub mod Heard
+pub mod Expired

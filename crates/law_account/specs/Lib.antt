@@ -1,0 +1,3 @@
+pub mod Accounted
+pub mod Heard
+pub mod Expired

@@ -1,0 +1,34 @@
+//! What the window of an acknowledged sender keeps of each number is what the account of its flow
+//! keeps of it, as numbers are written, sent again and named. A law is the contract of a function
+//! that does nothing.
+
+ghost use Rattle.law_account.specs.Accounted.{WritesAreAccounted, ResendsAreAccounted};
+ghost use Rattle.law_account.specs.Accounted.{SegmentsAreAccounted};
+ghost use Rattle.law_account.specs.Heard.{StatusIsAccounted};
+ghost use Rattle.law_account.specs.Expired.{ExpiryIsAccounted};
+
+/// A number that is written is accounted: nothing of it waits, and it was never named.
+pub fn writes_are_accounted()
+    ensures { WritesAreAccounted }
+{}
+
+/// Where a PDU is sent again whole, none of its octets waits any longer on either side.
+pub fn resends_are_accounted()
+    ensures { ResendsAreAccounted }
+{}
+
+/// Where a segment is sent again, just its octets wait no longer on either side.
+pub fn segments_are_accounted()
+    ensures { SegmentsAreAccounted }
+{}
+
+/// A STATUS, entry by entry as the sender reads it, acknowledges, wakes and counts what the account
+/// has of it, and VT(A) moves as far.
+pub fn status_is_accounted()
+    ensures { StatusIsAccounted }
+{}
+
+/// An expiry of the poll timer names the same number on both sides, or none.
+pub fn expiry_is_accounted()
+    ensures { ExpiryIsAccounted }
+{}
