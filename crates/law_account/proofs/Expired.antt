@@ -98,7 +98,7 @@ some_same most (h ∷ hs) (n ∷ ns) e each =
     step true = lt-ltb 0 (suc (length hs)) (omega arith)
     step false = grind (arith, nat_tests)
 
-open_same : (most at : ℕ) (found : Option ℕ) (hs : List Sent) (ns : List SentNumber) → length hs ≡ length ns
+pub open_same : (most at : ℕ) (found : Option ℕ) (hs : List Sent) (ns : List SentNumber) → length hs ≡ length ns
     → Pairs most hs ns → last_open at found hs ≡ last_open_of at found ns
 open_same most at found [] [] e each = refl
 open_same most at found [] (n ∷ ns) e each = absurd (omega (arith, e))
@@ -108,7 +108,7 @@ open_same most at found (h ∷ hs) (n ∷ ns) e each =
     ∙ open_same most (at + 1) (if n.acked then found else Some at) hs ns (omega (arith, e))
     (λ k lt. each (suc k) (omega (arith, lt)))
 
-quiet_same : (s : State) (f : FlowSending) (more left : Bool) → not left ≡ (is_empty s && not more)
+pub quiet_same : (s : State) (f : FlowSending) (more left : Bool) → not left ≡ (is_empty s && not more)
     → AreAccounted s.config.max_retx s.window f → is_quiet s more ≡ is_quiet_in left f
 quiet_same s f more left e a =
     ap (λ (b : Bool). not b && ((is_empty s && not more) || is_shut s))
@@ -122,7 +122,7 @@ on_true : (b : Bool) → (b || true) ≡ true
 on_true true = refl
 on_true false = refl
 
-recalled_accounted : (most : ℕ) (h : Sent) (n : SentNumber) → IsAccounted most h n
+pub recalled_accounted : (most : ℕ) (h : Sent) (n : SentNumber) → IsAccounted most h n
     → IsAccounted most (recalled most h) (named_whole n)
 recalled_accounted most h n a =
     accounted_of most (recalled most h) (named_whole n) (λ i. has n.waiting i || true)

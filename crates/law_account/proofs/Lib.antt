@@ -3,3 +3,5 @@ pub mod Sending
 pub mod Naming
 pub mod Heard
 pub mod Expired
+pub mod Spent
+pub mod Limit

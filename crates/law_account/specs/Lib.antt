@@ -1,3 +1,4 @@
 pub mod Accounted
 pub mod Heard
 pub mod Expired
+pub mod Limit

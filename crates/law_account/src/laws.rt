@@ -6,6 +6,7 @@ ghost use Rattle.law_account.specs.Accounted.{WritesAreAccounted, ResendsAreAcco
 ghost use Rattle.law_account.specs.Accounted.{SegmentsAreAccounted};
 ghost use Rattle.law_account.specs.Heard.{StatusIsAccounted};
 ghost use Rattle.law_account.specs.Expired.{ExpiryIsAccounted};
+ghost use Rattle.law_account.specs.Limit.{SendingIsLimited, StatusIsLimited, ExpiryIsLimited};
 
 /// A number that is written is accounted: nothing of it waits, and it was never named.
 pub fn writes_are_accounted()
@@ -31,4 +32,20 @@ pub fn status_is_accounted()
 /// An expiry of the poll timer names the same number on both sides, or none.
 pub fn expiry_is_accounted()
     ensures { ExpiryIsAccounted }
+{}
+
+/// As numbers are written and sent again, none comes to have been named too often.
+pub fn sending_is_limited()
+    ensures { SendingIsLimited }
+{}
+
+/// As a STATUS is heard, the limit comes at the sender exactly where the account finds its first
+/// number that was named too often, and it is that number.
+pub fn status_is_limited()
+    ensures { StatusIsLimited }
+{}
+
+/// So it does as the poll timer expires.
+pub fn expiry_is_limited()
+    ensures { ExpiryIsLimited }
 {}
