@@ -1,7 +1,7 @@
 -- The poll timer expires: it is as quiet on both sides, and the same number is named.
-use Rattle.std.proofs.Common.{◌≡◌, ◌<◌, ◌≤◌, inl, inr, ℕ, zero, suc, ◌+◌, Bool, true, false, not, ◌||◌, ◌&&◌, ◌==◌}
+use Rattle.std.proofs.Common.{◌≡◌, ◌<◌, ◌≤◌, inl, inr, ℕ, suc, ◌+◌, Bool, true, false, not, ◌||◌, ◌&&◌, ◌==◌}
 use Rattle.std.proofs.Common.{if◌then◌else◌, List, [], ◌∷◌, length, Option, Some, None, is_some, refl, ap, sym, subst}
-use Rattle.std.proofs.Common.{◌∙◌, arith, nat_lt, nat_le, set}
+use Rattle.std.proofs.Common.{◌∙◌, arith, nat_lt, nat_le}
 use Rattle.std.specs.Prelude.{MatchOption, IfSome}
 use Rattle.std.proofs.lemmas.Bool.{cases_lt, le-leb, lt-ltb, le-ltb, and_from, and_right, or_left, ne_eqb}
 use Rattle.std.proofs.lemmas.Bool.Decides.{nat_tests}
@@ -13,12 +13,11 @@ use Rattle.rlc_pdu.proofs.PlaceLaws.{gaps_are_first}
 use Rattle.rlc_am_tx_window.specs.Sent.{Sent, is_waiting, recalled, Lies}
 use Rattle.rlc_am_tx_window.specs.Window.{TxWindow, slot_at, leading_idle, last_open}
 use Rattle.rlc_am_tx_window.proofs.SlotSteps.{gap-lies}
-use Rattle.rlc_am_tx.specs.Machine.{State, is_empty, is_quiet, is_shut, waits, after_expiry, expired, with_recalled}
-use Rattle.rlc_am_tx.specs.Machine.{recalled_place, with_owed, ended, expiry_limit}
-use Rattle.l2_num.specs.Timers.{runs}
+use Rattle.rlc_am_tx.specs.Machine.{State, is_empty, is_quiet, is_shut, after_expiry, expired, with_recalled}
+use Rattle.rlc_am_tx.specs.Machine.{with_owed, expiry_limit}
 use Rattle.journal_account.specs.FlowSending.{SentNumber, FlowSending, number_at, is_resting, some_wait, recalled_at}
 use Rattle.journal_account.specs.FlowSending.{recalled as named_whole, last_open as last_open_of, polled_in}
-use Rattle.journal_account.specs.FlowSending.{with_poll_expired, woken_between, is_quiet as is_quiet_in}
+use Rattle.journal_account.specs.FlowSending.{with_poll_expired, is_quiet as is_quiet_in}
 use Rattle.journal_account.proofs.Naming.{between_has, between_ascends}
 use Rattle.law_rlc.proofs.AmSender.Least.{ended-window}
 use Rattle.law_rlc.proofs.AmSender.Marked.{recalled-slot}

@@ -1,31 +1,29 @@
 -- A STATUS is heard: number by number, and VT(A) moves.
-use Rattle.std.proofs.Common.{◌≡◌, ◌<◌, ◌≤◌, ℕ, ◌+◌, ◌-◌, Bool, true, false, not, ◌||◌, ◌&&◌}
+use Rattle.std.proofs.Common.{◌≡◌, ◌<◌, ◌≤◌, ℕ, ◌+◌, Bool, true, false, not, ◌||◌, ◌&&◌}
 use Rattle.std.proofs.Common.{if◌then◌else◌, List, [], length, drop, Option, None, is_some, refl, ap, sym, subst, ◌∙◌}
 use Rattle.std.proofs.Common.{arith, nat_lt, length-drop}
-use Rattle.std.proofs.lemmas.Bool.{ltb-false, le-ltb}
+use Rattle.std.proofs.lemmas.Bool.{ltb-false}
 use Rattle.std.proofs.lemmas.Bool.Decides.{nat_tests}
 use Rattle.std.proofs.lemmas.List.{get_or-drop}
-use Rattle.std.specs.List.{sum}
 use Rattle.rlc_pdu.specs.declared.pdu.Nack.{Nack}
-use Rattle.rlc_pdu.specs.Pdus.{StatusPdu}
 use Rattle.rlc_pdu.specs.Runs.{has}
 use Rattle.rlc_am_tx_window.specs.Sent.{Sent}
 use Rattle.rlc_am_tx_window.specs.Window.{TxWindow, slot_at, offset_of, is_named, named_all, advanced, leading_acked}
-use Rattle.rlc_am_tx.specs.Machine.{State, is_ignored, after_status, applied, read, ended, limit_of, stops}
+use Rattle.rlc_am_tx.specs.Machine.{is_ignored, after_status, applied, read, limit_of, stops}
 use Rattle.journal_account.specs.declared.entry.StatusEntry.{StatusEntry}
-use Rattle.journal_account.specs.Entries.{names_number, names_octet}
-use Rattle.journal_account.specs.FlowSending.{SentNumber, FlowSending, never_named, number_at, woken, names_new}
+use Rattle.journal_account.specs.Entries.{names_number}
+use Rattle.journal_account.specs.FlowSending.{SentNumber, FlowSending, never_named, number_at, names_new}
 use Rattle.journal_account.specs.FlowSending.{named_number, heard_as, heard_number, heard_all, acked_first}
-use Rattle.journal_account.specs.FlowSending.{advanced_with, applied_in, with_status}
+use Rattle.journal_account.specs.FlowSending.{advanced_with, with_status}
 use Rattle.journal_account.proofs.Naming.{woken_has, woken_ascends}
-use Rattle.journal_account.proofs.Acking.{heard_at, heard_len, acked_few}
+use Rattle.journal_account.proofs.Acking.{heard_at, heard_len}
 use Rattle.law_rlc.specs.AmSender.Namings.{Marks, names, any_below, with_naming, heard_waits, heard_namings}
 use Rattle.law_rlc.proofs.AmSender.Slots.{all-acked, all-named, slot-drop}
 use Rattle.law_rlc.proofs.AmSender.Least.{heard_slots, heard-length, heard-acked, ended-window}
-use Rattle.law_rlc.proofs.AmSender.Keys.{key, Key, heard-keys, same-keys}
+use Rattle.law_rlc.proofs.AmSender.Keys.{Key, heard-keys, same-keys}
 use Rattle.law_rlc.proofs.AmSender.Heard.{IsSlot, heard-slot, open-is, back}
 use Rattle.law_account.specs.Accounted.{IsAccounted, AreAccounted}
-use Rattle.law_account.specs.Heard.{AreTied, IsHeard, StatusIsAccounted}
+use Rattle.law_account.specs.Heard.{AreTied, StatusIsAccounted}
 use Rattle.law_account.proofs.Numbers.{slot_of, accounted_of, acked_same}
 use Rattle.law_account.proofs.Naming.{number_named, octet_named, octets_within, new_named}
 

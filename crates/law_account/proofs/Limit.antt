@@ -1,40 +1,39 @@
 -- The limit comes at the same number on both sides.
-use Rattle.std.proofs.Common.{◌≡◌, ◌<◌, ◌≤◌, ◌⊎◌, inl, inr, ℕ, zero, suc, ◌+◌, ◌-◌, ◌%◌, Bool, true, false, not, ◌&&◌}
-use Rattle.std.proofs.Common.{if◌then◌else◌, List, [], ◌∷◌, ◌++◌, length, drop, Option, Some, None, is_some, refl, ap, sym}
-use Rattle.std.proofs.Common.{subst, ◌∙◌, arith, nat_lt, set, get_or-set_same, get_or-set_other, length-drop}
+use Rattle.std.proofs.Common.{◌≡◌, ◌<◌, ◌≤◌, inl, inr, ℕ, zero, suc, ◌+◌, ◌-◌, Bool, true, false}
+use Rattle.std.proofs.Common.{if◌then◌else◌, List, [], ◌∷◌, ◌++◌, length, drop, Option, Some, None, is_some, refl, ap}
+use Rattle.std.proofs.Common.{sym, subst, ◌∙◌, arith, nat_lt, set, get_or-set_same, get_or-set_other, length-drop}
 use Rattle.std.specs.Prelude.{IfSome}
-use Rattle.std.proofs.lemmas.Bool.{cases_lt, cases_eq, ltb-true, ltb-false, lt-ltb}
-use Rattle.std.proofs.lemmas.List.{get_or_append_left, get_or_push, get_or_past, length_push, get_or-drop}
+use Rattle.std.proofs.lemmas.Bool.{cases_lt, cases_eq, ltb-true, ltb-false}
+use Rattle.std.proofs.lemmas.List.{get_or-drop}
 use Rattle.std.proofs.Math.ListN.{length-set}
-use Rattle.rlc_pdu.specs.declared.constants.TheConstants.{AM_MODULUS}
 use Rattle.rlc_pdu.specs.declared.pdu.Nack.{Nack}
 use Rattle.rlc_am_tx_window.specs.Sent.{Sent, is_spent, recalled}
 use Rattle.rlc_am_tx_window.specs.Window.{TxWindow, nothing, slot_at, offset_of, is_named, leading_acked, last_open}
 use Rattle.rlc_am_tx_window.specs.Window.{spent_among}
 use Rattle.rlc_am_tx_window.proofs.RingSteps.{slot-past}
 use Rattle.rlc_am_tx.specs.Machine.{State, is_ignored, after_status, applied, applied_heard, read, ended, limit_in}
-use Rattle.rlc_am_tx.specs.Machine.{limit_of, stops, heard, heard_of, after_expiry, expiry, expiry_of, expired, spent_at}
+use Rattle.rlc_am_tx.specs.Machine.{stops, heard, heard_of, after_expiry, expiry, expiry_of, expired, spent_at}
 use Rattle.rlc_am_tx.specs.Machine.{expiry_limit, recalled_place, with_recalled, with_owed, is_quiet}
 use Rattle.rlc_am_tx.specs.declared.Heard.TheVariants as hears
 use Rattle.journal_account.specs.declared.entry.StatusEntry.{StatusEntry}
 use Rattle.journal_account.specs.Entries.{names_number}
-use Rattle.journal_account.specs.FlowSending.{SentNumber, FlowSending, never_named, number_at, with_sent, with_resent}
+use Rattle.journal_account.specs.FlowSending.{SentNumber, FlowSending, never_named, number_at}
 use Rattle.journal_account.specs.FlowSending.{with_rest, rested_in, heard_as, heard_number, heard_all, acked_first}
 use Rattle.journal_account.specs.FlowSending.{first_over, or_over, advanced_with, with_status, recalled_at, polled_in}
-use Rattle.journal_account.specs.FlowSending.{recalled as named_whole, with_poll_expired}
-use Rattle.journal_account.proofs.Acking.{heard_at, heard_len, acked_few}
+use Rattle.journal_account.specs.FlowSending.{recalled as named_whole}
+use Rattle.journal_account.proofs.Acking.{heard_at, heard_len}
 use Rattle.law_rlc.proofs.AmSender.Slots.{leading-acked}
 use Rattle.law_rlc.proofs.AmSender.Least.{heard_slots, heard-length}
 use Rattle.law_rlc.proofs.AmSender.Marked.{recalled-within}
 use Rattle.law_account.specs.Accounted.{IsAccounted, AreAccounted}
-use Rattle.law_account.specs.Heard.{AreTied, IsHeard}
-use Rattle.law_account.specs.Limit.{IsLimited, StaysLimited, SendingIsLimited, LimitsAgree, StatusIsLimited}
+use Rattle.law_account.specs.Heard.{AreTied}
+use Rattle.law_account.specs.Limit.{IsLimited, SendingIsLimited, LimitsAgree, StatusIsLimited}
 use Rattle.law_account.specs.Limit.{ExpiryIsLimited, limit_heard, limit_expired, sn_of}
 use Rattle.law_account.proofs.Numbers.{acked_same}
 use Rattle.law_account.proofs.Naming.{number_named}
 use Rattle.law_account.proofs.Heard.{numbers_heard}
 use Rattle.law_account.proofs.Expired.{quiet_same, open_same, recalled_accounted}
-use Rattle.law_account.proofs.Spent.{spent_is, Spent, IsFirst, IsNone, Answers, among, over_none, over_some}
+use Rattle.law_account.proofs.Spent.{spent_is, Spent, Answers, among, over_none, over_some}
 
 -- ---- numbers are written and sent again
 

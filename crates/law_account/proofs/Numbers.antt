@@ -1,5 +1,5 @@
 -- A number of the window against the account's, and the numbers in their places.
-use Rattle.std.proofs.Common.{◌≡◌, ◌<◌, ◌≤◌, inl, inr, ℕ, zero, suc, ◌+◌, Bool, true, false, not, List, [], ◌∷◌}
+use Rattle.std.proofs.Common.{◌≡◌, ◌<◌, ◌≤◌, inl, inr, ℕ, suc, ◌+◌, Bool, false, not, List, [], ◌∷◌}
 use Rattle.std.proofs.Common.{if◌then◌else◌, length, refl, ap, sym, subst, ◌∙◌, arith, set, get_or-set_same}
 use Rattle.std.proofs.Common.{get_or-set_other}
 use Rattle.std.proofs.lemmas.Bool.{cases_eq}

@@ -1,5 +1,5 @@
 -- Numbers are written, and sent again.
-use Rattle.std.proofs.Common.{◌≡◌, ◌<◌, ◌≤◌, inl, inr, ℕ, zero, suc, ◌+◌, ◌-◌, Bool, true, false, not, ◌&&◌, ◌||◌}
+use Rattle.std.proofs.Common.{◌≡◌, ◌<◌, inl, inr, ℕ, ◌+◌, Bool, true, false, not, ◌&&◌, ◌||◌}
 use Rattle.std.proofs.Common.{List, [], ◌∷◌, ◌++◌, length, refl, ap, sym, subst, ◌∙◌, arith, nat_lt, nat_le, set}
 use Rattle.std.specs.List.{sum}
 use Rattle.std.proofs.lemmas.Bool.{cases_lt, le-ltb, le-leb, lt-ltb, and_from}
@@ -8,13 +8,21 @@ use Rattle.rlc_pdu.specs.Runs.{has, run_between, lies_in}
 use Rattle.rlc_pdu.proofs.RunSteps.{added_has, added_ascends, removed_has, removed_ascends}
 use Rattle.rlc_am_tx_window.specs.Sent.{Sent, fresh, rested, sent_part}
 use Rattle.rlc_am_tx_window.specs.Window.{TxWindow, slot_at, with_slot}
-use Rattle.journal_account.specs.FlowSending.{SentNumber, FlowSending, never_named, number_at, with_sent, with_rest}
+use Rattle.journal_account.specs.FlowSending.{SentNumber, FlowSending, never_named, number_at, with_rest}
 use Rattle.journal_account.specs.FlowSending.{rested_in, with_resent}
 use Rattle.law_rlc.proofs.AmSender.Least.{at-old, at-new}
 use Rattle.law_rlc.proofs.AmSender.Heard.{has-all}
-use Rattle.law_account.specs.Accounted.{IsAccounted, AreAccounted, WritesAreAccounted, ResendsAreAccounted}
-use Rattle.law_account.specs.Accounted.{SegmentsAreAccounted}
+use Rattle.law_account.specs.Accounted.{IsAccounted, AreAccounted, OutsetIsAccounted, WritesAreAccounted}
+use Rattle.law_account.specs.Accounted.{ResendsAreAccounted, SegmentsAreAccounted}
 use Rattle.law_account.proofs.Numbers.{set_accounted}
+
+pub outset_accounted : OutsetIsAccounted
+outset_accounted config = record {
+  base = refl;
+  most_is = refl;
+  length_is = refl;
+  numbers = λ k lt. absurd (omega (arith, lt));
+}
 
 fresh_accounted : (most : ℕ) (field lens : List ℕ) (begins ends : Bool) (place : ℕ) → sum lens ≡ length field
     → IsAccounted most (fresh field lens begins ends place) (never_named (length field))
@@ -34,8 +42,12 @@ pub writes_accounted : WritesAreAccounted
 writes_accounted most w f field lens begins ends place whole a = record {
   base = a.base;
   most_is = a.most_is;
-  length_is = omega (arith, a.length_is, length_push w.slots (fresh field lens begins ends place),
-      length_push f.numbers (never_named (length field)));
+  length_is = omega (
+    arith,
+    a.length_is,
+    length_push w.slots (fresh field lens begins ends place),
+    length_push f.numbers (never_named (length field)),
+  );
   numbers = λ k lt. by k (omega (arith, lt, length_push w.slots (fresh field lens begins ends place)));
 }
   where

@@ -3,11 +3,13 @@
 use Rattle.std.specs.Prelude.{◌≡◌, ◌≤◌, ◌<◌, ℕ, ◌+◌, Bool, false, not, List, [], ◌∷◌, ◌++◌, length}
 use Rattle.std.specs.Prelude.{None}
 use Rattle.std.specs.List.{sum}
+use Rattle.l2_types.specs.declared.config.AmTxConfig.{AmTxConfig}
 use Rattle.rlc_pdu.specs.Runs.{AreAscending, has}
 use Rattle.rlc_am_tx_window.specs.Sent.{Sent, fresh, rested, sent_part}
 use Rattle.rlc_am_tx_window.specs.Window.{TxWindow, slot_at, with_slot}
-use Rattle.journal_account.specs.FlowSending.{SentNumber, FlowSending, number_at, with_sent}
-use Rattle.journal_account.specs.FlowSending.{with_resent}
+use Rattle.rlc_am_tx.specs.Machine.{start}
+use Rattle.journal_account.specs.FlowSending.{SentNumber, FlowSending, number_at, none_sent}
+use Rattle.journal_account.specs.FlowSending.{with_sent, with_resent}
 use Rattle.law_rlc.specs.AmSender.Namings.{count_of}
 
 -- the lengths of its elements make up the field, no STATUS is being read, and the places ascend;
@@ -31,6 +33,11 @@ pub record AreAccounted (most : ℕ) (w : TxWindow) (f : FlowSending) : Type 0 w
   pub length_is : length w.slots ≡ length f.numbers
   pub numbers : (k : ℕ) → k < length w.slots
       → IsAccounted most (slot_at w.slots k) (number_at f.numbers k)
+
+-- nothing was written yet
+abbrev pub OutsetIsAccounted : Type 0
+OutsetIsAccounted = (config : AmTxConfig)
+    → AreAccounted config.max_retx (start config).window (none_sent config.max_retx)
 
 -- a number is written
 abbrev pub WritesAreAccounted : Type 0

@@ -13,7 +13,8 @@ use Rattle.law_account.specs.Accounted.{AreAccounted}
 -- number
 pub record IsTied (w : TxWindow) (n : Nack) (m : StatusEntry) : Type 0 where
   pub part : m.part ≡ n.part
-  pub number : (k : ℕ) → k < length w.slots → (m.number == w.base + k) ≡ (offset_of w.base n.sn == k)
+  pub number : (k : ℕ) → k < length w.slots
+      → (m.number == w.base + k) ≡ (offset_of w.base n.sn == k)
 
 -- entries, one by one
 abbrev pub AreTied : TxWindow → List Nack → List StatusEntry → Type 0

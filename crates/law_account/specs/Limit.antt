@@ -1,6 +1,6 @@
 -- The retransmission limit at the sender, and in the account (TS 36.322 5.2.1).
-use Rattle.std.specs.Prelude.{◌≡◌, ◌≤◌, ℕ, ◌%◌, Bool, true, false, not, ◌&&◌, List, Option, Some, None}
-use Rattle.std.specs.Prelude.{is_some}
+use Rattle.std.specs.Prelude.{◌≡◌, ◌≤◌, ℕ, ◌%◌, Bool, true, false, not, ◌&&◌, List, Option}
+use Rattle.std.specs.Prelude.{Some, None, is_some}
 use Rattle.l2_num.specs.Timers.{runs}
 use Rattle.rlc_pdu.specs.declared.constants.TheConstants.{AM_MODULUS}
 use Rattle.rlc_pdu.specs.Pdus.{StatusPdu}

@@ -2,11 +2,16 @@
 //! keeps of it, as numbers are written, sent again and named. A law is the contract of a function
 //! that does nothing.
 
-ghost use Rattle.law_account.specs.Accounted.{WritesAreAccounted, ResendsAreAccounted};
-ghost use Rattle.law_account.specs.Accounted.{SegmentsAreAccounted};
+ghost use Rattle.law_account.specs.Accounted.{OutsetIsAccounted, WritesAreAccounted};
+ghost use Rattle.law_account.specs.Accounted.{ResendsAreAccounted, SegmentsAreAccounted};
 ghost use Rattle.law_account.specs.Heard.{StatusIsAccounted};
 ghost use Rattle.law_account.specs.Expired.{ExpiryIsAccounted};
 ghost use Rattle.law_account.specs.Limit.{SendingIsLimited, StatusIsLimited, ExpiryIsLimited};
+
+/// They begin alike.
+pub fn outset_is_accounted()
+    ensures { OutsetIsAccounted }
+{}
 
 /// A number that is written is accounted: nothing of it waits, and it was never named.
 pub fn writes_are_accounted()
