@@ -5,3 +5,4 @@ pub mod Heard
 pub mod Expired
 pub mod Spent
 pub mod Limit
+pub mod Taken

@@ -2,3 +2,4 @@ pub mod Accounted
 pub mod Heard
 pub mod Expired
 pub mod Limit
+pub mod Taken

@@ -7,6 +7,7 @@ ghost use Rattle.law_account.specs.Accounted.{ResendsAreAccounted, SegmentsAreAc
 ghost use Rattle.law_account.specs.Heard.{StatusIsAccounted};
 ghost use Rattle.law_account.specs.Expired.{ExpiryIsAccounted};
 ghost use Rattle.law_account.specs.Limit.{SendingIsLimited, StatusIsLimited, ExpiryIsLimited};
+ghost use Rattle.law_account.specs.Taken.{TakesAreAccounted, TakesAreLimited};
 
 /// They begin alike.
 pub fn outset_is_accounted()
@@ -28,6 +29,11 @@ pub fn segments_are_accounted()
     ensures { SegmentsAreAccounted }
 {}
 
+/// So each call of `take` does to both sides what its turn says.
+pub fn takes_are_accounted()
+    ensures { TakesAreAccounted }
+{}
+
 /// A STATUS, entry by entry as the sender reads it, acknowledges, wakes and counts what the account
 /// has of it, and VT(A) moves as far.
 pub fn status_is_accounted()
@@ -42,6 +48,11 @@ pub fn expiry_is_accounted()
 /// As numbers are written and sent again, none comes to have been named too often.
 pub fn sending_is_limited()
     ensures { SendingIsLimited }
+{}
+
+/// So none does in a call of `take`, and none fails.
+pub fn takes_are_limited()
+    ensures { TakesAreLimited }
 {}
 
 /// As a STATUS is heard, the limit comes at the sender exactly where the account finds its first
