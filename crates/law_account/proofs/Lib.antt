@@ -6,3 +6,4 @@ pub mod Expired
 pub mod Spent
 pub mod Limit
 pub mod Taken
+pub mod TrueStatus

@@ -3,3 +3,4 @@ pub mod Heard
 pub mod Expired
 pub mod Limit
 pub mod Taken
+pub mod TrueStatus

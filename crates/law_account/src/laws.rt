@@ -5,6 +5,7 @@
 ghost use Rattle.law_account.specs.Accounted.{OutsetIsAccounted, WritesAreAccounted};
 ghost use Rattle.law_account.specs.Accounted.{ResendsAreAccounted, SegmentsAreAccounted};
 ghost use Rattle.law_account.specs.Heard.{StatusIsAccounted};
+ghost use Rattle.law_account.specs.TrueStatus.{TrueStatusesAreHeard};
 ghost use Rattle.law_account.specs.Expired.{ExpiryIsAccounted};
 ghost use Rattle.law_account.specs.Limit.{SendingIsLimited, StatusIsLimited, ExpiryIsLimited};
 ghost use Rattle.law_account.specs.Taken.{TakesAreAccounted, TakesAreLimited};
@@ -38,6 +39,12 @@ pub fn takes_are_accounted()
 /// has of it, and VT(A) moves as far.
 pub fn status_is_accounted()
     ensures { StatusIsAccounted }
+{}
+
+/// The sender reads the true numbers of a STATUS that has 10 bits of each, as a receiver of the
+/// flow writes it: none lies above VT(S), and VT(S) lies less than 1024 above each.
+pub fn true_statuses_are_heard()
+    ensures { TrueStatusesAreHeard }
 {}
 
 /// An expiry of the poll timer names the same number on both sides, or none.
