@@ -5,6 +5,7 @@ use Rattle.std.proofs.Common.{arith, nat_lt, length-drop}
 use Rattle.std.proofs.lemmas.Bool.{ltb-false}
 use Rattle.std.proofs.lemmas.Bool.Decides.{nat_tests}
 use Rattle.std.proofs.lemmas.List.{get_or-drop}
+use Rattle.std.proofs.Math.Bool.{and-false, and-true, or_comm}
 use Rattle.rlc_pdu.specs.declared.pdu.Nack.{Nack}
 use Rattle.rlc_pdu.specs.Runs.{has}
 use Rattle.rlc_am_tx_window.specs.Sent.{Sent}
@@ -70,20 +71,6 @@ field_read : (w : TxWindow) (below most : ℕ) (ns : List Nack) (k : ℕ)
 field_read w below most ns k =
     ap (λ (x : Key). x.field) (same-keys (heard_slots w below most ns) w.slots (heard-keys w below most ns) k)
 
-or_turned : (a b : Bool) → (a || b) ≡ (b || a)
-or_turned true true = refl
-or_turned true false = refl
-or_turned false true = refl
-or_turned false false = refl
-
-and_off : (a : Bool) → (a && false) ≡ false
-and_off true = refl
-and_off false = refl
-
-and_on : (a : Bool) → (a && true) ≡ a
-and_on true = refl
-and_on false = refl
-
 pub number_heard : (w : TxWindow) (below most : ℕ) (ns : List Nack) (ms : List StatusEntry) (k : ℕ) (n : SentNumber)
     → k < length w.slots → AreTied w ns ms → IsAccounted most (slot_at w.slots k) n
     → IsAccounted most (slot_at (heard_slots w below most ns) k) (heard_number (w.base + below) ms (w.base + k) n)
@@ -129,10 +116,10 @@ number_heard w below most ns ms k n lt t a =
         (with_count (with_naming n.namings (names_new ms (w.base + k) n))
         (namings_read w ns n k lt ∙ (rw (ex, ey, a.size) refl
         ∙ ap (with_naming n.namings) (sym (new_named w ns ms k most h n lt t a))))) size
-        (acked_read w below most ns k lt a.plain ∙ rw (ex, ey) (and_off (nat_lt k below)) ∙ sym (sym a.acked ∙ ex))
+        (acked_read w below most ns k lt a.plain ∙ rw (ex, ey) (and-false (nat_lt k below)) ∙ sym (sym a.acked ∙ ex))
         (woken_ascends (w.base + k) n.size n.waiting ms a.ascends)
         (λ i i_in. waits_read w below ns n k i lt ∙ (rw (ex, ey, a.size) refl
-        ∙ (or_turned (has n.waiting i) (names w.base k ns n.size i)
+        ∙ (or_comm (has n.waiting i) (names w.base k ns n.size i)
         ∙ (ap (λ (b : Bool). b || has n.waiting i) (sym (octet_named w ns ms k n.size i lt t))
         ∙ sym (woken_has (w.base + k) n.size n.waiting ms i)))))
         (λ i le. woken_has (w.base + k) n.size n.waiting ms i
@@ -142,16 +129,16 @@ number_heard w below most ns ms k n lt t a =
         (heard_waits w below ns (marks_of n).waits (w.base + k))
         (with_count n.namings (namings_read w ns n k lt ∙ rw (ex, ey) refl)) size
         (acked_read w below most ns k lt a.plain ∙ rw (ex, ey, ez) refl) tt
-        (λ i i_in. waits_read w below ns n k i lt ∙ rw (ex, ey, ez) (and_off (has n.waiting i))) (λ i le. refl)
+        (λ i i_in. waits_read w below ns n k i lt ∙ rw (ex, ey, ez) (and-false (has n.waiting i))) (λ i le. refl)
     by false false false ex ey ez =
         accounted_of most g n (heard_waits w below ns (marks_of n).waits (w.base + k))
         (with_count n.namings (namings_read w ns n k lt ∙ rw (ex, ey) refl)) size
         (acked_read w below most ns k lt a.plain ∙ rw (ex, ey, ez) refl ∙ sym (sym a.acked ∙ ex)) a.ascends
-        (λ i i_in. waits_read w below ns n k i lt ∙ rw (ex, ey, ez) (and_on (has n.waiting i))) a.within
+        (λ i i_in. waits_read w below ns n k i lt ∙ rw (ex, ey, ez) (and-true (has n.waiting i))) a.within
 
 -- ---- the window
 
-pub numbers_heard : (w : TxWindow) (f : FlowSending) (below most : ℕ) (ns : List Nack) (ms : List StatusEntry)
+numbers_heard : (w : TxWindow) (f : FlowSending) (below most : ℕ) (ns : List Nack) (ms : List StatusEntry)
     → AreTied w ns ms → AreAccounted most w f → (k : ℕ) → k < length w.slots
     → IsAccounted most (slot_at (heard_slots w below most ns) k)
     (number_at (heard_all (w.base + below) ms f.base f.numbers) k)
@@ -161,23 +148,21 @@ numbers_heard w f below most ns ms t a k lt =
     ∙ ap (λ (b : ℕ). heard_number (w.base + below) ms (b + k) (number_at f.numbers k)) (sym a.base)))
     (number_heard w below most ns ms k (number_at f.numbers k) lt t (a.numbers k lt))
 
-moves : (w : TxWindow) (f : FlowSending) (below most : ℕ) (ns : List Nack) (ms : List StatusEntry)
+-- both sides behind it: as many numbers, accounted one by one, of which as many stand first that are acknowledged
+pub record ReadAlike (most : ℕ) (w : TxWindow) (xs : List Sent) (ys : List SentNumber) : Type 0 where
+  pub long : length xs ≡ length w.slots
+  pub same : length ys ≡ length xs
+  pub each : (k : ℕ) → k < length xs → IsAccounted most (slot_at xs k) (number_at ys k)
+  pub first : leading_acked xs ≡ acked_first ys
+
+pub read_alike : (w : TxWindow) (f : FlowSending) (below most : ℕ) (ns : List Nack) (ms : List StatusEntry)
     → AreTied w ns ms → AreAccounted most w f
-    → AreAccounted most (advanced (record { base = w.base; slots = heard_slots w below most ns }))
-    (advanced_with (heard_all (w.base + below) ms f.base f.numbers) f)
-moves w f below most ns ms t a = record {
-  base = omega (arith, a.base, first);
-  most_is = a.most_is;
-  length_is = length-drop (leading_acked xs) xs ∙ (omega (arith, first, len, ylen, a.length_is)
-      ∙ sym (length-drop (acked_first ys) ys));
-  numbers = λ k lt.
-      let l : leading_acked xs + k < length w.slots =
-      omega (arith, lt, len, length-drop (leading_acked xs) xs) in
-      subst (λ (x : Sent). IsAccounted most x (number_at (drop (acked_first ys) ys) k))
-      (sym (slot-drop xs (leading_acked xs) k))
-      (subst (λ (x : SentNumber). IsAccounted most (slot_at xs (leading_acked xs + k)) x)
-      (ap (λ (j : ℕ). number_at ys (j + k)) first ∙ sym (get_or-drop (acked_first ys) ys k (never_named 0)))
-      (numbers_heard w f below most ns ms t a (leading_acked xs + k) l));
+    → ReadAlike most w (heard_slots w below most ns) (heard_all (w.base + below) ms f.base f.numbers)
+read_alike w f below most ns ms t a = record {
+  long = long;
+  same = same;
+  each = each;
+  first = acked_same xs ys (sym same) (λ k lt. (each k lt).acked);
 }
   where
     xs : List Sent
@@ -186,15 +171,32 @@ moves w f below most ns ms t a = record {
     ys : List SentNumber
     ys = heard_all (w.base + below) ms f.base f.numbers
 
-    len : length xs ≡ length w.slots
-    len = heard-length w below most ns
+    long : length xs ≡ length w.slots
+    long = heard-length w below most ns
 
-    ylen : length ys ≡ length f.numbers
-    ylen = heard_len (w.base + below) ms f.base f.numbers
+    same : length ys ≡ length xs
+    same = heard_len (w.base + below) ms f.base f.numbers ∙ (sym a.length_is ∙ sym long)
 
-    first : leading_acked xs ≡ acked_first ys
-    first = acked_same xs ys (len ∙ (a.length_is ∙ sym ylen))
-        (λ k lt. (numbers_heard w f below most ns ms t a k (omega (arith, lt, len))).acked)
+    each : (k : ℕ) → k < length xs → IsAccounted most (slot_at xs k) (number_at ys k)
+    each k lt = numbers_heard w f below most ns ms t a k (omega (arith, lt, long))
+
+moves : (w : TxWindow) (f : FlowSending) (most : ℕ) (xs : List Sent) (ys : List SentNumber)
+    → AreAccounted most w f → ReadAlike most w xs ys
+    → AreAccounted most (advanced (record { base = w.base; slots = xs })) (advanced_with ys f)
+moves w f most xs ys a r = record {
+  base = let first = r.first in omega (arith, a.base, first);
+  most_is = a.most_is;
+  length_is =
+      let first = r.first in
+      length-drop (leading_acked xs) xs ∙ (omega (arith, first, r.same) ∙ sym (length-drop (acked_first ys) ys));
+  numbers = λ k lt.
+      let inside : leading_acked xs + k < length xs = omega (arith, lt, length-drop (leading_acked xs) xs) in
+      subst (λ (x : Sent). IsAccounted most x (number_at (drop (acked_first ys) ys) k))
+      (sym (slot-drop xs (leading_acked xs) k))
+      (subst (λ (x : SentNumber). IsAccounted most (slot_at xs (leading_acked xs + k)) x)
+      (ap (λ (j : ℕ). number_at ys (j + k)) r.first ∙ sym (get_or-drop (acked_first ys) ys k (never_named 0)))
+      (r.each (leading_acked xs + k) inside));
+}
 
 pub status_accounted : StatusIsAccounted
 unfolding after_status
@@ -213,7 +215,9 @@ status_accounted s f status ack entries i a =
         (sym (ended-window (limit_of s below status.nacks) (stops s below status.nacks) (read s below status.nacks)))
         (subst (λ (j : ℕ). AreAccounted most (read s below status.nacks).window
         (advanced_with (heard_all j entries f.base f.numbers) f)) (i.ack_is high)
-        (moves s.window f below most status.nacks entries (i.tied high) a)))
+        (moves s.window f most (heard_slots s.window below most status.nacks)
+        (heard_all (s.window.base + below) entries f.base f.numbers) a
+        (read_alike s.window f below most status.nacks entries (i.tied high) a))))
       where
         below : ℕ
         below = offset_of s.window.base status.ack

@@ -8,7 +8,7 @@ use Rattle.std.proofs.lemmas.List.{get_or-drop}
 use Rattle.std.proofs.Math.ListN.{length-set}
 use Rattle.rlc_pdu.specs.declared.pdu.Nack.{Nack}
 use Rattle.rlc_am_tx_window.specs.Sent.{Sent, is_spent, recalled}
-use Rattle.rlc_am_tx_window.specs.Window.{TxWindow, nothing, slot_at, offset_of, is_named, leading_acked, last_open}
+use Rattle.rlc_am_tx_window.specs.Window.{TxWindow, nothing, slot_at, offset_of, is_named, last_open}
 use Rattle.rlc_am_tx_window.specs.Window.{spent_among}
 use Rattle.rlc_am_tx_window.proofs.RingSteps.{slot-past}
 use Rattle.rlc_am_tx.specs.Machine.{State, is_ignored, after_status, applied, applied_heard, read, ended, limit_in}
@@ -21,17 +21,16 @@ use Rattle.journal_account.specs.FlowSending.{SentNumber, FlowSending, never_nam
 use Rattle.journal_account.specs.FlowSending.{with_rest, rested_in, heard_as, heard_number, heard_all, acked_first}
 use Rattle.journal_account.specs.FlowSending.{first_over, or_over, advanced_with, with_status, recalled_at, polled_in}
 use Rattle.journal_account.specs.FlowSending.{recalled as named_whole}
-use Rattle.journal_account.proofs.Acking.{heard_at, heard_len}
+use Rattle.journal_account.proofs.Acking.{heard_at}
 use Rattle.law_rlc.proofs.AmSender.Slots.{leading-acked}
-use Rattle.law_rlc.proofs.AmSender.Least.{heard_slots, heard-length}
+use Rattle.law_rlc.proofs.AmSender.Least.{heard_slots}
 use Rattle.law_rlc.proofs.AmSender.Marked.{recalled-within}
-use Rattle.law_account.specs.Accounted.{IsAccounted, AreAccounted}
+use Rattle.law_account.specs.Accounted.{AreAccounted}
 use Rattle.law_account.specs.Heard.{AreTied}
 use Rattle.law_account.specs.Limit.{IsLimited, SendingIsLimited, LimitsAgree, StatusIsLimited}
 use Rattle.law_account.specs.Limit.{ExpiryIsLimited, limit_heard, limit_expired, sn_of}
-use Rattle.law_account.proofs.Numbers.{acked_same}
 use Rattle.law_account.proofs.Naming.{number_named}
-use Rattle.law_account.proofs.Heard.{numbers_heard}
+use Rattle.law_account.proofs.Heard.{ReadAlike, read_alike}
 use Rattle.law_account.proofs.Expired.{quiet_same, open_same, recalled_accounted}
 use Rattle.law_account.proofs.Spent.{spent_is, Spent, Answers, among, over_none, over_some}
 
@@ -99,19 +98,20 @@ kept_heard : (w : TxWindow) (f : FlowSending) (below most : ℕ) (ns : List Nack
     → AreTied w ns ms → AreAccounted most w f → ((k : ℕ) → (number_at f.numbers k).namings ≤ most)
     → Kept w f most ns (heard_slots w below most ns) (heard_all (w.base + below) ms f.base f.numbers)
 kept_heard w f below most ns ms t a few = record {
-  long = long;
-  same = same;
-  spent = λ k lt. ap (λ (c : Option ℕ). is_spent c most) ((each k lt).count) ∙ spent_is (number_at ys k).namings most;
+  long = r.long;
+  same = r.same;
+  spent = λ k lt.
+      ap (λ (c : Option ℕ). is_spent c most) ((r.each k lt).count) ∙ spent_is (number_at ys k).namings most;
   unnamed = λ k lt e.
       subst (λ (x : SentNumber). x.namings ≤ most) (sym (at k lt))
       (subst (λ (j : ℕ). j ≤ most)
       (sym (unnamed_few (number_at f.numbers k).acked (names_number ms (f.base + k)) (nat_lt (f.base + k)
       (w.base + below)) ms (f.base + k) (number_at f.numbers k)
       (ap (λ (b : ℕ). names_number ms (b + k)) (sym a.base)
-      ∙ (number_named w ns ms k (omega (arith, lt, long)) t ∙ e)))) (few k));
+      ∙ (number_named w ns ms k (omega (arith, lt, r.long)) t ∙ e)))) (few k));
   closed = λ k lt e.
       let shut : (number_at ys k).acked ≡ true =
-      sym ((each k lt).acked) ∙ leading-acked xs k (subst (λ (j : ℕ). k < j) (sym first) e) in
+      sym ((r.each k lt).acked) ∙ leading-acked xs k (subst (λ (j : ℕ). k < j) (sym r.first) e) in
       subst (λ (x : SentNumber). x.namings ≤ most) (sym (at k lt))
       (subst (λ (j : ℕ). j ≤ most)
       (sym (closed_few (number_at f.numbers k).acked (names_number ms (f.base + k)) (nat_lt (f.base + k)
@@ -125,21 +125,12 @@ kept_heard w f below most ns ms t a few = record {
     ys : List SentNumber
     ys = heard_all (w.base + below) ms f.base f.numbers
 
-    long : length xs ≡ length w.slots
-    long = heard-length w below most ns
-
-    same : length ys ≡ length xs
-    same = heard_len (w.base + below) ms f.base f.numbers ∙ (sym a.length_is ∙ sym long)
-
-    each : (k : ℕ) → k < length xs → IsAccounted most (slot_at xs k) (number_at ys k)
-    each k lt = numbers_heard w f below most ns ms t a k (omega (arith, lt, long))
+    r : ReadAlike most w xs ys
+    r = read_alike w f below most ns ms t a
 
     at : (k : ℕ) → k < length xs
         → number_at ys k ≡ heard_number (w.base + below) ms (f.base + k) (number_at f.numbers k)
-    at k lt = heard_at (w.base + below) ms f.base f.numbers k (omega (arith, lt, long, a.length_is))
-
-    first : leading_acked xs ≡ acked_first ys
-    first = acked_same xs ys (sym same) (λ k lt. (each k lt).acked)
+    at k lt = heard_at (w.base + below) ms f.base f.numbers k (omega (arith, lt, r.long, a.length_is))
 
 -- a place in the window as a number
 abbrev placed : ℕ → Option ℕ → Option ℕ
