@@ -1,4 +1,5 @@
 pub mod Lists
+pub mod Filled
 pub mod SameRecords
 pub mod NamedPdus
 pub mod NewBlocks

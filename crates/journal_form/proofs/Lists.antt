@@ -146,7 +146,7 @@ bits_decide false false = (λ e. refl, λ e. refl)
 pub bits_are : (a b : List Bool) → Decides (pointwise same_bit a b) (a ≡ b)
 bits_are a b = slice_eq-Decides bits_decide a b (pointwise same_bit a b) refl
 
-agree : (a b : Bool) (P Q : Type 0) → Decides a P → Decides b Q → (P → Q) → (Q → P) → a ≡ b
+pub agree : (a b : Bool) (P Q : Type 0) → Decides a P → Decides b Q → (P → Q) → (Q → P) → a ≡ b
 agree true true P Q da db f g = refl
 agree false false P Q da db f g = refl
 agree true false P Q da db f g = sym (db.1 (f (da.0 refl)))

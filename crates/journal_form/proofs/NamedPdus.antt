@@ -30,7 +30,7 @@ use Rattle.promises.specs.Names.{SentPdu, IsData, IsReport, IsSignalling, IsPdcp
 use Rattle.promises.specs.Names.{AreNamed, whole_sdus}
 use Rattle.promises.specs.RightForm.{known_mode, mode_of}
 use Rattle.journal_form.specs.Tests.{is_bitmap, is_user, is_user_by, is_signalling, is_signalling_by, is_pdcp, are_pdcp}
-use Rattle.journal_form.specs.Tests.{is_umd, is_umd_by, is_amd, is_amd_by, is_amd_written, is_control_by}
+use Rattle.journal_form.specs.Tests.{is_umd, is_umd_by, is_umd_written, is_amd, is_amd_by, is_amd_written, is_control_by}
 use Rattle.journal_form.specs.Tests.{is_status, is_named, is_next, are_named, same_bit}
 use Rattle.journal_form.proofs.Lists.{bits_are}
 
@@ -159,16 +159,15 @@ umd_is : (kind : PdcpKind) (bits sn : ℕ) (octets : List ℕ) (r : Result UmdPd
     → is_umd_by kind bits sn octets r ≡ true → IsUmd kind bits sn octets
 umd_is kind bits sn octets (Ok pdu) h e =
     let wholes = whole_sdus pdu.fi pdu.elements in
-    let p = and_parts ((pdu.sn == sn) && nat_lt pdu.fi 4 && bytes_eq (umd_canonical bits pdu) octets)
-    (are_pdcp kind wholes) e in
-    let q = and_parts ((pdu.sn == sn) && nat_lt pdu.fi 4) (bytes_eq (umd_canonical bits pdu) octets) p.0 in
-    let s = and_parts (pdu.sn == sn) (nat_lt pdu.fi 4) q.0 in
+    let p = and_parts ((pdu.sn == sn) && nat_lt pdu.fi 4) (is_umd_written kind bits octets pdu) e in
+    let s = and_parts (pdu.sn == sn) (nat_lt pdu.fi 4) p.0 in
+    let w = and_parts (bytes_eq (umd_canonical bits pdu) octets) (are_pdcp kind wholes) p.1 in
     record {
       pdu = pdu;
       number = eqb-true pdu.sn sn s.0;
       framing = ltb-true pdu.fi 4 s.1;
-      sdus = all_pdcp kind wholes p.1;
-      canonical = octets_are (umd_canonical bits pdu) octets q.1;
+      sdus = all_pdcp kind wholes w.1;
+      canonical = octets_are (umd_canonical bits pdu) octets w.0;
       read = h;
     }
 umd_is kind bits sn octets (Err fault) h e = no e
@@ -179,11 +178,10 @@ umd_back kind bits sn octets h =
     let pdu = h.pdu in
     let wholes = whole_sdus pdu.fi pdu.elements in
     ap (is_umd_by kind bits sn octets) h.read
-    ∙ and_from ((pdu.sn == sn) && nat_lt pdu.fi 4 && bytes_eq (umd_canonical bits pdu) octets) (are_pdcp kind wholes)
-    (and_from ((pdu.sn == sn) && nat_lt pdu.fi 4) (bytes_eq (umd_canonical bits pdu) octets)
+    ∙ and_from ((pdu.sn == sn) && nat_lt pdu.fi 4) (is_umd_written kind bits octets pdu)
     (and_from (pdu.sn == sn) (nat_lt pdu.fi 4) (eq-eqb pdu.sn sn h.number) (lt-ltb pdu.fi 4 h.framing))
-    (octets_same (umd_canonical bits pdu) octets h.canonical))
-    (pdcp_all kind wholes h.sdus)
+    (and_from (bytes_eq (umd_canonical bits pdu) octets) (are_pdcp kind wholes)
+    (octets_same (umd_canonical bits pdu) octets h.canonical) (pdcp_all kind wholes h.sdus))
 
 may_be_whole : (again : Bool) (s : Option Segment) → (again || is_none s) ≡ true → again ≡ false → s ≡ None
 may_be_whole again None e f = refl

@@ -1,11 +1,11 @@
 -- The tests that decide of a new block whether it has right form (TS 36.321 6.1.2, TS 36.322 6.2.1,
 -- TS 36.323 6.2): what is read is written again, and compared.
-use Rattle.std.specs.Prelude.{ℕ, ◌-◌, ◌==◌, nat_lt, Bool, true, false, ◌&&◌, ◌||◌}
-use Rattle.std.specs.Prelude.{not, List, [], ◌∷◌, length, Option, Some, None, is_none, Result, Ok}
+use Rattle.std.specs.Prelude.{ℕ, ◌+◌, ◌-◌, ◌*◌, ◌/◌, ◌%◌, ◌==◌, nat_lt, Bool, true, false, ◌&&◌}
+use Rattle.std.specs.Prelude.{◌||◌, if◌then◌else◌, not, drop, List, [], ◌∷◌, length, Option, Some, None, is_none, Result, Ok}
 use Rattle.std.specs.Prelude.{Err, slice_index, slice_index_or}
 use Rattle.std.specs.Cmp.Lexicographic.{pointwise}
 use Rattle.std.specs.Str.{bytes_eq}
-use Rattle.l2_bits.specs.Bits.{bits_of}
+use Rattle.l2_bits.specs.Bits.{bits_of, number}
 use Rattle.l2_types.specs.declared.event.How.{How}
 use Rattle.l2_types.specs.declared.event.How.TheVariants as hows
 use Rattle.mac_pdu.specs.declared.builder.Sdu.{Sdu}
@@ -14,7 +14,7 @@ use Rattle.mac_pdu.specs.declared.item.Direction.{Direction}
 use Rattle.mac_pdu.specs.Items.{MacItem}
 use Rattle.mac_pdu.specs.Reading.{reading}
 use Rattle.rlc_pdu.specs.declared.fault.RlcRefusal.{RlcRefusal}
-use Rattle.rlc_pdu.specs.Pdus.{UmdPdu, AmdPdu, AcknowledgedPdu, Payload, Status}
+use Rattle.rlc_pdu.specs.Pdus.{UmdPdu, AmdPdu, StatusPdu, AcknowledgedPdu, Payload, Status}
 use Rattle.rlc_pdu.specs.Reading.{umd_at, am_at}
 use Rattle.rlc_pdu.specs.Writing.{umd_canonical, amd_canonical, status_written}
 use Rattle.pdcp_pdu.specs.declared.pdu.PdcpKind.{PdcpKind}
@@ -65,10 +65,26 @@ are_pdcp kind (x ∷ xs) = is_pdcp kind x && are_pdcp kind xs
 
 -- ---- PDUs of RLC
 
+-- what fills the octet behind an odd number of units is 0; there is a unit for each of n elements
+-- but the last, behind a header of so many octets (TS 36.322 6.2.1.3)
+abbrev pub is_filled : List ℕ → ℕ → ℕ → Bool
+is_filled octets header n =
+    ((n - 1) % 2 == 0) || (slice_index octets (header + (n - 1) / 2 * 3 + 1) % 16 == 0)
+
+-- the octets of a UMD PDU's header, and that those of its bits that are reserved are 0
+abbrev pub umd_size : ℕ → ℕ
+umd_size bits = if bits == 5 then 1 else 2
+
+abbrev pub is_clear : ℕ → List ℕ → Bool
+is_clear bits octets = (bits == 5) || (slice_index octets 0 / 32 == 0)
+
+abbrev pub is_umd_written : PdcpKind → ℕ → List ℕ → UmdPdu → Bool
+is_umd_written kind bits octets pdu =
+    bytes_eq (umd_canonical bits pdu) octets && are_pdcp kind (whole_sdus pdu.fi pdu.elements)
+
 abbrev pub is_umd_by : PdcpKind → ℕ → ℕ → List ℕ → Result UmdPdu RlcRefusal → Bool
 is_umd_by kind bits sn octets (Ok pdu) =
-    (pdu.sn == sn) && nat_lt pdu.fi 4 && bytes_eq (umd_canonical bits pdu) octets
-    && are_pdcp kind (whole_sdus pdu.fi pdu.elements)
+    (pdu.sn == sn) && nat_lt pdu.fi 4 && is_umd_written kind bits octets pdu
 is_umd_by kind bits sn octets (Err fault) = false
 
 abbrev pub is_umd : PdcpKind → ℕ → ℕ → List ℕ → Bool
@@ -96,10 +112,17 @@ abbrev pub same_bit : Bool → Bool → Bool
 same_bit true b = b
 same_bit false b = not b
 
+abbrev pub is_status_written : List ℕ → StatusPdu → Bool
+is_status_written octets pdu = pointwise same_bit (status_written pdu.ack pdu.nacks) (bits_of octets)
+
+-- the bits are 0 that fill the last octet of a STATUS, behind so many (TS 36.322 6.2.1.6)
+abbrev pub ends_clear : List ℕ → ℕ → Bool
+ends_clear octets n = number (drop n (bits_of octets)) == 0
+
 abbrev pub is_control_by : ℕ → List ℕ → Result AcknowledgedPdu RlcRefusal → Bool
 is_control_by ack octets (Ok (Payload pdu)) = false
 is_control_by ack octets (Ok (Status pdu)) =
-    (pdu.ack == ack) && pointwise same_bit (status_written pdu.ack pdu.nacks) (bits_of octets)
+    (pdu.ack == ack) && is_status_written octets pdu
 is_control_by ack octets (Err fault) = false
 
 abbrev pub is_status : ℕ → List ℕ → Bool

@@ -153,13 +153,12 @@ fn is_next(
 fn are_named(
     alloc: Global,
     kinds: &Kinds,
-    sent: Items<Sent>,
+    sent: &mut Items<Sent>,
     reader: MacReader<'_>,
 ) -> Result<bool, NoMemory>
-    ensures { IfOk result (λ yes. yes ≡ are_named kinds.now sent (sdus_in reader.entry)) }
+    ensures { IfOk result (λ yes. yes ≡ are_named kinds.now sent.old (sdus_in reader.entry)) }
 {
     let mut reader = reader;
-    let mut sent = sent;
     while let Some(item) = reader.next() {
         if let Item::Sdu { lcid, octets } = item {
             if !is_next(alloc, kinds, sent.pop_front(), lcid, octets)? {
@@ -175,12 +174,12 @@ fn names(
     alloc: Global,
     direction: Direction,
     kinds: &Kinds,
-    sent: Items<Sent>,
+    sent: &mut Items<Sent>,
     octets: &[u8],
 ) -> Result<bool, NoMemory>
     requires { length octets.now < OCTETS_LIMIT }
     ensures { IfOk result
-        (λ yes. yes ≡ names_by kinds.now sent (reading direction octets.now)) }
+        (λ yes. yes ≡ names_by kinds.now sent.old (reading direction octets.now)) }
 {
     match MacReader::parse(direction, octets) {
         Ok(reader) => are_named(alloc, kinds, sent, reader),
@@ -188,16 +187,17 @@ fn names(
     }
 }
 
-// Whether a new block carries the PDUs that are named, and is canonical.
+// Whether a new block carries the PDUs that are named, and is canonical. Those that it carries are
+// taken out.
 pub(crate) fn carries(
     alloc: Global,
     direction: Direction,
     kinds: &Kinds,
-    sent: Items<Sent>,
+    sent: &mut Items<Sent>,
     octets: &[u8],
 ) -> Result<bool, NoMemory>
     requires { length octets.now < OCTETS_LIMIT }
-    ensures { IfOk result (λ yes. yes ≡ carries direction kinds.now sent octets.now) }
+    ensures { IfOk result (λ yes. yes ≡ carries direction kinds.now sent.old octets.now) }
 {
     if !names(alloc, direction, kinds, sent, octets)? {
         return Ok(false);

@@ -15,7 +15,6 @@ use mac_pdu::Direction;
 use pdu_show::{Kinds, Records, show_block};
 use std::alloc::Global;
 use std::marker::Model;
-use std::mem;
 
 /// As many PDUs may be told of before the block that carries them.
 const MOST_SENT: usize = 16384;
@@ -89,9 +88,9 @@ impl Building {
         requires { length octets.now < OCTETS_LIMIT }
         ensures { OnOk result (self.new ≡ builds direction kinds.now octets.now self.old) }
     {
-        let sent = mem::replace(&mut self.sent, Items::new(self.alloc));
-        let is_right = carries(self.alloc, direction, kinds, sent, octets)?;
+        let is_right = carries(self.alloc, direction, kinds, &mut self.sent, octets)?;
         self.right = self.right && is_right;
+        self.clear();
         Ok(())
     }
 
@@ -99,7 +98,16 @@ impl Building {
         ensures { self.new ≡ ends self.old }
     {
         self.right = self.right && self.sent.is_empty();
-        self.sent = Items::new(self.alloc);
+        self.clear();
+    }
+
+    // Nothing is named; the list keeps its memory where it is empty already.
+    fn clear(&mut self)
+        ensures { self.new ≡ record { sent = []; right = self.old.right } }
+    {
+        if !self.sent.is_empty() {
+            self.sent = Items::new(self.alloc);
+        }
     }
 }
 
@@ -137,8 +145,10 @@ impl Showing {
     fn go_on(&mut self)
         ensures { self.new ≡ goes_on self.old }
     {
-        self.right = self.right && self.awaited.is_empty();
-        self.awaited = Records::new(self.alloc);
+        if !self.awaited.is_empty() {
+            self.right = false;
+            self.awaited = Records::new(self.alloc);
+        }
     }
 
     // A new block of a direction.

@@ -61,7 +61,7 @@ fn is_acknowledged(
         How::Tm => Ok(false),
         How::New => is_amd(alloc, kind, false, sn, octets),
         How::Re => is_amd(alloc, kind, true, sn, octets),
-        How::Status => is_status(alloc, sn, octets),
+        How::Status => Ok(is_status(sn, octets)),
     }
 }
 
