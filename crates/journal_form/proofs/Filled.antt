@@ -1,10 +1,9 @@
 -- A data PDU is the canonical writing of what is read of it exactly where its reserved bits and what fills its units
 -- are 0.
-use Rattle.std.proofs.Common.{◌≡◌, ℕ, zero, suc, ◌+◌, ◌-◌, ◌*◌, ◌/◌, ◌%◌, ◌<◌, ◌≤◌, ◌==◌, Bool, true, false, ◌&&◌}
-use Rattle.std.proofs.Common.{◌||◌, List, [], ◌∷◌, ◌++◌, length, map, get_or, refl, ap, sym, ◌∙◌, subst, arith}
-use Rattle.std.proofs.Common.{length-append, take, drop, ◌^◌, Option, Some, None, ◌⊎◌, inl, inr}
-use Rattle.std.specs.Prelude.{if◌then◌else◌, slice_index}
-use Rattle.std.specs.Bool.{Decides}
+use Rattle.std.proofs.Common.{◌≡◌, ℕ, suc, ◌+◌, ◌-◌, ◌*◌, ◌/◌, ◌%◌, ◌<◌, ◌≤◌, ◌==◌, Bool, true, false, ◌&&◌}
+use Rattle.std.proofs.Common.{List, [], ◌∷◌, ◌++◌, length, map, refl, ap, sym, ◌∙◌, subst, arith}
+use Rattle.std.proofs.Common.{length-append, take, drop, ◌^◌, Option, Some, None, inl, inr}
+use Rattle.std.specs.Prelude.{slice_index}
 use Rattle.std.specs.List.{sum, concat}
 use Rattle.std.specs.Cmp.Lexicographic.{pointwise}
 use Rattle.std.specs.Str.{bytes_eq}
@@ -20,7 +19,6 @@ use Rattle.rlc_pdu.specs.declared.pdu.Segment.{Segment}
 use Rattle.rlc_pdu.specs.Pdus.{UmdPdu, AmdPdu, StatusPdu, AreLens, IsUmBits, but_last}
 use Rattle.rlc_pdu.specs.Units.{pair_octets, units_octets, follows}
 use Rattle.rlc_pdu.specs.Grammar.{IsUmdPdu, IsAmdPdu, amd_header, umd_header, body_octets, has_units, has_segment}
-use Rattle.rlc_pdu.specs.Grammar.{segment_octets}
 use Rattle.rlc_pdu.specs.Status.{IsStatusPdu, status_bits, nacks_size}
 use Rattle.rlc_pdu.specs.Writing.{umd_canonical, amd_canonical, status_written}
 use Rattle.rlc_pdu.proofs.Statuses.{length_status}

@@ -2,6 +2,10 @@ pub mod Lists
 pub mod Filled
 pub mod SameRecords
 pub mod NamedPdus
+pub mod Subheaders
+pub mod Payloads
+pub mod Placed
+pub mod CanonicalBlocks
 pub mod NewBlocks
 pub mod Units
 pub mod Shows

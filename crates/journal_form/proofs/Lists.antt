@@ -1,4 +1,4 @@
--- Lists compared one by one, and the items of a block that is read.
+-- Lists compared one by one.
 use Rattle.std.proofs.Common.{◌≡◌, ◌≢◌, ℕ, zero, suc, ◌+◌, ◌-◌, ◌%◌, ◌<◌, ◌==◌, Bool, true, false, ◌&&◌, ◌||◌}
 use Rattle.std.proofs.Common.{List, [], ◌∷◌, ◌++◌, length, map, drop, take, get_or, Option, Some, None, refl, ap, sym}
 use Rattle.std.proofs.Common.{◌∙◌, arith, length-append}
@@ -15,13 +15,9 @@ use Rattle.std.proofs.lemmas.List.Concat.{flat_map-cons}
 use Rattle.std.proofs.lemmas.Slice.Eq.{bytes_eq-Decides, slice_eq-Decides}
 use Rattle.l2_bits.specs.Bits.{bits, bits_of, number}
 use Rattle.l2_bits.proofs.BitFields.{length-bits, length-bits_of, number-bits}
-use Rattle.mac_pdu.specs.declared.item.Direction.{Direction}
-use Rattle.mac_pdu.specs.Items.{MacItem, front, element, sdu, padding}
-use Rattle.mac_pdu.specs.Grammar.{MacPdu, IsHeader, IsInner, IsLast}
 use Rattle.pdcp_pdu.specs.declared.pdu.PdcpKind.{PdcpKind}
 use Rattle.pdu_show.specs.declared.kinds.Layout.{Layout}
 use Rattle.promises.specs.Names.{SentPdu}
-use Rattle.journal_form.specs.Parts.{AreRight, IsRight}
 use Rattle.journal_form.specs.Tests.{same_bit, is_pdcp, are_pdcp, are_named}
 
 -- ---- one by one
@@ -157,28 +153,6 @@ pub same_as_bits : (a b : List ℕ) → Octets a → Octets b → bytes_eq a b �
 same_as_bits a b fa fb =
     agree (bytes_eq a b) (pointwise same_bit (bits_of a) (bits_of b)) (a ≡ b) (bits_of a ≡ bits_of b)
     (bytes_eq-Decides a b) (bits_are (bits_of a) (bits_of b)) (ap bits_of) (octets_by_bits a b fa fb)
-
--- ---- what may stand in a block
-
-inner_right : (d : Direction) (p : MacItem) (octets : List ℕ) → IsInner d p octets → IsRight d p
-inner_right d front octets h = tt
-inner_right d (element c) octets h = h.0
-inner_right d (sdu lcid payload) octets h = h.1
-inner_right d (padding n) octets h = tt
-
-last_right : (d : Direction) (p : MacItem) (octets : List ℕ) → IsLast d p octets → IsRight d p
-last_right d front octets h = tt
-last_right d (element c) octets h = h.0
-last_right d (sdu lcid payload) octets h = h.0
-last_right d (padding n) octets h = tt
-
-all_right : (d : Direction) (ps : List MacItem) (octets : List ℕ) → IsHeader d ps octets → AreRight d ps
-all_right d [] octets h = absurd h
-all_right d (p ∷ []) octets h = (last_right d p octets h, tt)
-all_right d (p ∷ q ∷ ps) octets h = (inner_right d p h.0 h.3, all_right d (q ∷ ps) h.1 h.4)
-
-pub items_right : (d : Direction) (ps : List MacItem) (octets : List ℕ) → MacPdu d ps octets → AreRight d ps
-items_right d ps octets h = all_right d ps h.header h.subheaders
 
 -- ---- PDUs that are named
 

@@ -1,5 +1,5 @@
 pub mod Lines
-pub mod Parts
+pub mod Canonical
 pub mod Tests
 pub mod SameRecords
 pub mod Checking

@@ -13,6 +13,7 @@ use Rattle.mac_pdu.specs.declared.fault.MacRefusal.{MacRefusal}
 use Rattle.mac_pdu.specs.declared.item.Direction.{Direction}
 use Rattle.mac_pdu.specs.Items.{MacItem}
 use Rattle.mac_pdu.specs.Reading.{reading}
+use Rattle.mac_pdu.specs.Writing.{canonical}
 use Rattle.rlc_pdu.specs.declared.fault.RlcRefusal.{RlcRefusal}
 use Rattle.rlc_pdu.specs.Pdus.{UmdPdu, AmdPdu, StatusPdu, AcknowledgedPdu, Payload, Status}
 use Rattle.rlc_pdu.specs.Reading.{umd_at, am_at}
@@ -26,8 +27,7 @@ use Rattle.pdcp_pdu.specs.Reading.{user_at, srb_at}
 use Rattle.pdu_show.specs.declared.kinds.Layout.{Layout}
 use Rattle.pdu_show.specs.declared.kinds.Layout.TheVariants as layouts
 use Rattle.promises.specs.Names.{SentPdu, whole_sdus}
-use Rattle.promises.specs.RightForm.{sdus_in}
-use Rattle.journal_form.specs.Parts.{parts_of, is_written}
+use Rattle.promises.specs.RightForm.{sdus_in, unpadded}
 
 -- ---- SDUs of RLC
 
@@ -169,13 +169,18 @@ are_named kinds sent sdus = false
 
 -- ---- a block
 
-abbrev pub is_canonical_by : Direction → List ℕ → Result (List MacItem) MacRefusal → Bool
-is_canonical_by direction octets (Ok items) =
-    nat_lt 0 (length octets) && is_written octets (parts_of direction items)
-is_canonical_by direction octets (Err fault) = false
+-- SDUs of one octet at least
+abbrev pub have_octets : List Sdu → Bool
+have_octets [] = true
+have_octets (d ∷ sdus) = nat_lt 0 (length d.octets) && have_octets sdus
+
+abbrev pub is_canonical_by : List ℕ → Result (List MacItem) MacRefusal → Bool
+is_canonical_by octets (Ok items) =
+    have_octets (sdus_in items) && bytes_eq (canonical (unpadded items) (length octets)) octets
+is_canonical_by octets (Err fault) = false
 
 abbrev pub is_canonical : Direction → List ℕ → Bool
-is_canonical direction octets = is_canonical_by direction octets (reading direction octets)
+is_canonical direction octets = is_canonical_by octets (reading direction octets)
 
 abbrev pub names_by : List (Option Layout) → List SentPdu → Result (List MacItem) MacRefusal → Bool
 names_by kinds sent (Ok items) = are_named kinds sent (sdus_in items)

@@ -4,6 +4,7 @@
 #![tactic(auto)]
 
 mod block;
+mod canonical;
 mod checker;
 pub mod laws;
 mod lines;
