@@ -205,7 +205,8 @@ amd_tested kind pdu octets size count filled h wide long is =
 
 -- ---- a UMD PDU
 
-umd_length : (bits reserved fi more sn : ℕ) → IsUmBits bits → length (umd_header bits reserved fi more sn) ≡ umd_size bits
+umd_length : (bits reserved fi more sn : ℕ) → IsUmBits bits
+    → length (umd_header bits reserved fi more sn) ≡ umd_size bits
 umd_length bits reserved fi more sn (inl e) = rw e refl
 umd_length bits reserved fi more sn (inr e) = rw e refl
 

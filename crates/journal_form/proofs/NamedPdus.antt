@@ -30,7 +30,8 @@ use Rattle.promises.specs.Names.{SentPdu, IsData, IsReport, IsSignalling, IsPdcp
 use Rattle.promises.specs.Names.{AreNamed, whole_sdus}
 use Rattle.promises.specs.RightForm.{known_mode, mode_of}
 use Rattle.journal_form.specs.Tests.{is_bitmap, is_user, is_user_by, is_signalling, is_signalling_by, is_pdcp, are_pdcp}
-use Rattle.journal_form.specs.Tests.{is_umd, is_umd_by, is_umd_written, is_amd, is_amd_by, is_amd_written, is_control_by}
+use Rattle.journal_form.specs.Tests.{is_umd, is_umd_by, is_umd_written, is_amd, is_amd_by, is_amd_written}
+use Rattle.journal_form.specs.Tests.{is_control_by}
 use Rattle.journal_form.specs.Tests.{is_status, is_named, is_next, are_named, same_bit}
 use Rattle.journal_form.proofs.Lists.{bits_are}
 

@@ -86,19 +86,14 @@ zeros_back (suc n) =
 element_length : (d : Direction) (c : Control) (octets : List ℕ) → IsControl d c → IsElement c octets
     → length octets ≡ control_size c
 element_length Down (control.Contention id) octets h e = ap (length {A = ℕ}) e ∙ h
-element_length Down (control.Advance value) octets h e = ap (length {A = ℕ}) e.2
-element_length Down control.Drx octets h e = ap (length {A = ℕ}) e
-element_length Down (control.Phr level) octets h e = absurd h
-element_length Down (control.Crnti value) octets h e = absurd h
-element_length Down (control.Report report) octets h e = absurd h
 element_length Up (control.Contention id) octets h e = absurd h
-element_length Up (control.Advance value) octets h e = absurd h
-element_length Up control.Drx octets h e = absurd h
-element_length Up (control.Phr level) octets h e = ap (length {A = ℕ}) e.2
-element_length Up (control.Crnti value) octets h e = ap (length {A = ℕ}) e
-element_length Up (control.Report (bsr.Truncated group level)) octets h e = ap (length {A = ℕ}) e
-element_length Up (control.Report (bsr.Short group level)) octets h e = ap (length {A = ℕ}) e
-element_length Up (control.Report (bsr.Long levels)) octets h e = ap (length {A = ℕ}) e
+element_length d (control.Advance value) octets h e = ap (length {A = ℕ}) e.2
+element_length d control.Drx octets h e = ap (length {A = ℕ}) e
+element_length d (control.Phr level) octets h e = ap (length {A = ℕ}) e.2
+element_length d (control.Crnti value) octets h e = ap (length {A = ℕ}) e
+element_length d (control.Report (bsr.Truncated group level)) octets h e = ap (length {A = ℕ}) e
+element_length d (control.Report (bsr.Short group level)) octets h e = ap (length {A = ℕ}) e
+element_length d (control.Report (bsr.Long levels)) octets h e = ap (length {A = ℕ}) e
 
 payload_length : (d : Direction) (p : MacItem) (octets : List ℕ) → IsRight d p → IsPayload p octets
     → length octets ≡ payload_size p

@@ -123,10 +123,12 @@ none_placed fronted (suc fronts) controls sdus = none_placed (fronted || true) f
 
 saved_least : (least : ℕ) (d : Sdu) (sdus : List Sdu) → least_sdus least (d ∷ sdus) + saved (d ∷ sdus) ≡ 2
 unfolding least_sdus
-saved_least least d [] =
-    elim (cases_lt (length d.octets) 128) as (λ w. (if nat_lt (length d.octets) 128 then 1 else 0) + length (length_field (length d.octets)) ≡ 2) [
-      | inl lt ↦ rw (lt-ltb (length d.octets) 128 lt) refl
-      | inr le ↦ rw (le-ltb (length d.octets) 128 le) refl
+saved_least least d [] = least_saved (length d.octets)
+  where
+    least_saved : (n : ℕ) → (if nat_lt n 128 then 1 else 0) + length (length_field n) ≡ 2
+    least_saved n = elim (cases_lt n 128) as (λ w. (if nat_lt n 128 then 1 else 0) + length (length_field n) ≡ 2) [
+      | inl lt ↦ rw (lt-ltb n 128 lt) refl
+      | inr le ↦ rw (le-ltb n 128 le) refl
     ]
 saved_least least d (s ∷ sdus) = saved_least (if nat_lt (length d.octets) 128 then 1 else 0) s sdus
 

@@ -166,7 +166,8 @@ subheaders_found d (p ∷ q ∷ ps) octets rest behind h e =
     let others = h.1 in
     let whole : octets ++ rest ≡ one ++ (others ++ rest) =
     ap (λ (x : List ℕ). x ++ rest) h.2 ∙ append_assoc one others rest in
-    let found = more_found d p q ps one others rest behind (behind_subheader p (Some (one ++ (others ++ rest)))) h.3 refl
+    let next = behind_subheader p (Some (one ++ (others ++ rest))) in
+    let found = more_found d p q ps one others rest behind next h.3 refl
     (ap (λ (x : List ℕ). behind_subheaders (p ∷ q ∷ ps) (Some x)) (sym whole) ∙ e)
     (λ b f. subheaders_found d (q ∷ ps) others rest b h.4 f) in
     (h.2 ∙ found.0, found.1)

@@ -1,5 +1,5 @@
--- How a block that is read is tested, without writing it again: where octets are free that write
--- its items, each has the value that the canonical writing gives it (TS 36.321 6.1.2, 6.2.1).
+-- How a block that is read is tested without writing it again: what the grammar leaves free in its
+-- octets is as in the canonical writing (TS 36.321 6.1.2, 6.2.1).
 use Rattle.std.specs.Prelude.{ℕ, ◌==◌, nat_lt, nat_le, Bool, true, false, ◌&&◌, ◌||◌, not, List}
 use Rattle.std.specs.Prelude.{[], ◌∷◌, length, take, drop, Option, Some, None, if◌then◌else◌}
 use Rattle.std.specs.Prelude.{slice_index}
@@ -11,7 +11,7 @@ use Rattle.mac_pdu.specs.Writing.{control_size}
 
 -- ---- subheaders
 
--- whether an item is no SDU that has no length
+-- whether an item is no SDU for which there is no length
 abbrev pub is_short : MacItem → Bool
 is_short (sdu lcid octets) = nat_lt (length octets) 32768
 is_short front = true
@@ -22,7 +22,7 @@ abbrev pub are_short : List MacItem → Bool
 are_short [] = true
 are_short (p ∷ ps) = is_short p && are_short ps
 
--- what stands behind F and L, where 7 bits of it are taken for a length that they hold
+-- what stands behind F and L, where a length below 128 has 7 bits
 abbrev pub behind_length : ℕ → List ℕ → Option (List ℕ)
 behind_length n [] = None
 behind_length n (f ∷ []) = if nat_lt n 128 && nat_lt f 128 then Some [] else None
@@ -91,7 +91,7 @@ are_all (Some os) = length os == 0
 
 -- ---- padding
 
--- how many octets padding at the end has at least behind an item: fewer would stand in front
+-- how many octets padding at the end has at least behind an item: less of it stands in front
 abbrev pub least_behind : ℕ → MacItem → ℕ
 least_behind least front = least
 least_behind least (element c) = 2

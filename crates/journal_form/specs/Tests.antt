@@ -1,8 +1,8 @@
 -- The tests that decide of a new block whether it has right form (TS 36.321 6.1.2, TS 36.322 6.2.1,
 -- TS 36.323 6.2): what is read is written again, and compared.
 use Rattle.std.specs.Prelude.{ℕ, ◌+◌, ◌-◌, ◌*◌, ◌/◌, ◌%◌, ◌==◌, nat_lt, Bool, true, false, ◌&&◌}
-use Rattle.std.specs.Prelude.{◌||◌, if◌then◌else◌, not, drop, List, [], ◌∷◌, length, Option, Some, None, is_none, Result, Ok}
-use Rattle.std.specs.Prelude.{Err, slice_index, slice_index_or}
+use Rattle.std.specs.Prelude.{◌||◌, if◌then◌else◌, not, drop, List, [], ◌∷◌, length, Option, Some}
+use Rattle.std.specs.Prelude.{None, is_none, Result, Ok, Err, slice_index, slice_index_or}
 use Rattle.std.specs.Cmp.Lexicographic.{pointwise}
 use Rattle.std.specs.Str.{bytes_eq}
 use Rattle.l2_bits.specs.Bits.{bits_of, number}
@@ -113,7 +113,8 @@ same_bit true b = b
 same_bit false b = not b
 
 abbrev pub is_status_written : List ℕ → StatusPdu → Bool
-is_status_written octets pdu = pointwise same_bit (status_written pdu.ack pdu.nacks) (bits_of octets)
+is_status_written octets pdu =
+    pointwise same_bit (status_written pdu.ack pdu.nacks) (bits_of octets)
 
 -- the bits are 0 that fill the last octet of a STATUS, behind so many (TS 36.322 6.2.1.6)
 abbrev pub ends_clear : List ℕ → ℕ → Bool

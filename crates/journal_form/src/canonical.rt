@@ -1,4 +1,4 @@
-// The canonical writing of a block: the octets that are free in one are compared, and nothing is
+// Whether a block is canonical: what the grammar leaves free in one is compared, and no block is
 // built (TS 36.321 6.1.2, 6.2.1).
 ghost use Rattle.std.specs.Prelude.{◌≡◌, ◌<◌, ◌&&◌, true, false, length, option_map, Some, IfOk};
 ghost use Rattle.l2_bits.specs.declared.limits.TheConstants.{OCTETS_LIMIT};
@@ -17,7 +17,7 @@ use mac_pdu::{Bsr, Control, Direction, Item, MacReader};
 /// The length of an SDU is below this (TS 36.321 6.2.1).
 const SDU_LIMIT: usize = 32768;
 
-// What stands behind F and L, where 7 bits are taken for a length that they hold.
+// What stands behind F and L, where a length below 128 has 7 bits.
 fn behind_length(size: usize, octets: &[u8]) -> Option<&[u8]>
     ensures { option_map (λ x. x.now) result ≡ behind_length size octets.now }
 {
@@ -28,10 +28,11 @@ fn behind_length(size: usize, octets: &[u8]) -> Option<&[u8]>
     }
 }
 
-// What stands behind an item's subheader, where its R bits are 0 and its length has no form that is
-// longer than it needs.
+// What stands behind an item's subheader, where its R bits are 0 and its length has the shorter
+// form if that holds it.
 fn behind_subheader<'a>(item: Item<'_>, octets: &'a [u8]) -> Option<&'a [u8]>
-    ensures { option_map (λ x. x.now) result ≡ behind_subheader (item_in item.entry) (Some octets.now) }
+    ensures { option_map (λ x. x.now) result
+        ≡ behind_subheader (item_in item.entry) (Some octets.now) }
 {
     let [first, rest @ ..] = octets else {
         return None;
@@ -48,7 +49,7 @@ fn behind_subheader<'a>(item: Item<'_>, octets: &'a [u8]) -> Option<&'a [u8]>
     }
 }
 
-// Whether an item is no SDU that has no length.
+// Whether an item is no SDU of 2^15 octets or more, for which there is no length.
 fn is_short(item: Item<'_>) -> bool
     ensures { result ≡ is_short (item_in item.entry) }
 {
@@ -58,8 +59,8 @@ fn is_short(item: Item<'_>) -> bool
     }
 }
 
-// What stands behind the subheaders of a block, where each is canonical. An SDU of 2^15 octets or
-// more, which has no length, finds no memory.
+// What stands behind the subheaders of a block, where each is canonical. An SDU for which there is
+// no length finds no memory.
 fn behind_subheaders<'a>(
     reader: MacReader<'_>,
     octets: &'a [u8],
@@ -131,7 +132,8 @@ fn is_clear(item: Item<'_>, octets: &[u8]) -> bool
 
 // What stands behind the octets of an item, where they are canonical.
 fn behind_payload<'a>(item: Item<'_>, octets: &'a [u8]) -> Option<&'a [u8]>
-    ensures { option_map (λ x. x.now) result ≡ behind_payload (item_in item.entry) (Some octets.now) }
+    ensures { option_map (λ x. x.now) result
+        ≡ behind_payload (item_in item.entry) (Some octets.now) }
 {
     let size = payload_size(item);
     if size > octets.len() {
@@ -151,7 +153,7 @@ fn is_front(item: Item<'_>) -> bool
     matches!(item, Item::Front)
 }
 
-// How many octets padding at the end has at least behind an item: fewer stand in front.
+// How many octets padding at the end has at least behind an item: less of it stands in front.
 fn least_behind(least: u32, item: Item<'_>) -> u32
     ensures { result ≡ least_behind least (item_in item.entry) }
 {
@@ -163,6 +165,7 @@ fn least_behind(least: u32, item: Item<'_>) -> u32
     }
 }
 
+// Whether an item may stand behind others, if it is padding at the end.
 fn may_stand(fronted: bool, least: u32, item: Item<'_>) -> bool
     ensures { result ≡ may_stand fronted least (item_in item.entry) }
 {

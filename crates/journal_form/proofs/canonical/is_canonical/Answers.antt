@@ -7,8 +7,8 @@ pub returns-in_default-2 : goal.returns-in_default-2
 returns-in_default-2 c =
     let items = c.in-Ok.reader in
     let pdu = c.in-Ok.ensures.items in
-    tested c.args.direction items items c.args.octets.now (option_map (λ x. x.now) c.in_ok-body.field-0) false c.requires
-    pdu c.in-Ok.ensures.exact pdu c.in_ok-body.ensures.short c.in_ok-body.ensures.found
+    tested c.args.direction items items c.args.octets.now (option_map (λ x. x.now) c.in_ok-body.field-0) false
+    c.requires pdu c.in-Ok.ensures.exact pdu c.in_ok-body.ensures.short c.in_ok-body.ensures.found
     (sym (ap (λ found. passes items (option_map (λ x. x.now) found)) c.in_default-2.is))
 
 pub returns : goal.returns
