@@ -1,20 +1,16 @@
 -- Lists compared one by one.
-use Rattle.std.proofs.Common.{◌≡◌, ◌≢◌, ℕ, zero, suc, ◌+◌, ◌-◌, ◌%◌, ◌<◌, ◌==◌, Bool, true, false, ◌&&◌, ◌||◌}
-use Rattle.std.proofs.Common.{List, [], ◌∷◌, ◌++◌, length, map, drop, take, get_or, Option, Some, None, refl, ap, sym}
+use Rattle.std.proofs.Common.{◌≡◌, ◌≢◌, ℕ, zero, suc, ◌+◌, ◌-◌, ◌<◌, ◌==◌, Bool, true, false, ◌&&◌, ◌||◌}
+use Rattle.std.proofs.Common.{List, [], ◌∷◌, length, map, drop, take, Option, Some, None, refl, ap, sym}
 use Rattle.std.proofs.Common.{◌∙◌, arith, length-append}
 use Rattle.std.specs.Prelude.{slice_get, nat_lt}
 use Rattle.std.specs.Bool.{Decides}
 use Rattle.std.specs.List.{sum, concat}
 use Rattle.std.specs.Cmp.Lexicographic.{pointwise}
-use Rattle.std.specs.Str.{bytes_eq}
 use Rattle.std.proofs.Math.Seq.{drop-length}
 use Rattle.std.proofs.lemmas.Bool.{true≢false, ne_eqb, lt-ltb}
-use Rattle.std.proofs.lemmas.List.{append_cancel_left}
 use Rattle.std.proofs.lemmas.List.Sums.{sum_by-cons}
 use Rattle.std.proofs.lemmas.List.Concat.{flat_map-cons}
-use Rattle.std.proofs.lemmas.Slice.Eq.{bytes_eq-Decides, slice_eq-Decides}
-use Rattle.l2_bits.specs.Bits.{bits, bits_of, number}
-use Rattle.l2_bits.proofs.BitFields.{length-bits, length-bits_of, number-bits}
+use Rattle.std.proofs.lemmas.Slice.Eq.{slice_eq-Decides}
 use Rattle.pdcp_pdu.specs.declared.pdu.PdcpKind.{PdcpKind}
 use Rattle.pdu_show.specs.declared.kinds.Layout.{Layout}
 use Rattle.promises.specs.Names.{SentPdu}
@@ -100,38 +96,7 @@ window_fails kind before end x all xs r some here is known =
     sym (outside kind before end x xs some here)
     ∙ ap (λ (l : List (List ℕ)). are_pdcp kind (drop before (take end l))) (sym is) ∙ known
 
--- ---- the bits of octets
-
-take_front : (n : ℕ) (a b : List Bool) → length a ≡ n → take n (a ++ b) ≡ a
-take_front zero [] b e = refl
-take_front zero (x ∷ a) b e = absurd (omega arith)
-take_front (suc n) [] b e = absurd (omega arith)
-take_front (suc n) (x ∷ a) b e = ap (λ (l : List Bool). x ∷ l) (take_front n a b (omega arith))
-
-first_bits : (x y : ℕ) (xs ys : List Bool) → bits 8 x ++ xs ≡ bits 8 y ++ ys → bits 8 x ≡ bits 8 y
-first_bits x y xs ys e =
-    sym (take_front 8 (bits 8 x) xs (length-bits 8 x)) ∙ ap (take 8) e ∙ take_front 8 (bits 8 y) ys (length-bits 8 y)
-
-same_octet : (x y : ℕ) → x < 256 → y < 256 → bits 8 x ≡ bits 8 y → x ≡ y
-same_octet x y lx ly e =
-    let n : x % 256 ≡ y % 256 = sym (number-bits 8 x) ∙ ap number e ∙ number-bits 8 y in omega (arith, n)
-
-abbrev Octets : List ℕ → Type 0
-Octets xs = (i : ℕ) → get_or xs i 0 < 256
-
-octets_by_bits : (a b : List ℕ) → Octets a → Octets b → bits_of a ≡ bits_of b → a ≡ b
-octets_by_bits [] [] fa fb e = refl
-octets_by_bits [] (y ∷ ys) fa fb e =
-    absurd (omega (arith, length-bits_of (y ∷ ys), ap (length {A = Bool}) e))
-octets_by_bits (x ∷ xs) [] fa fb e =
-    absurd (omega (arith, length-bits_of (x ∷ xs), ap (length {A = Bool}) e))
-octets_by_bits (x ∷ xs) (y ∷ ys) fa fb e =
-    let first = first_bits x y (bits_of xs) (bits_of ys) e in
-    let same : x ≡ y = same_octet x y (fa 0) (fb 0) first in
-    let more : bits_of xs ≡ bits_of ys = append_cancel_left (bits 8 x) (bits_of xs) (bits_of ys)
-    (e ∙ ap (λ (l : List Bool). l ++ bits_of ys) (sym first)) in
-    let rest : xs ≡ ys = octets_by_bits xs ys (λ i. fa (suc i)) (λ i. fb (suc i)) more in
-    cc
+-- ---- bits, and tests that agree
 
 bits_decide : (a b : Bool) → Decides (same_bit a b) (a ≡ b)
 bits_decide true true = (λ e. refl, λ e. refl)
@@ -147,12 +112,6 @@ agree true true P Q da db f g = refl
 agree false false P Q da db f g = refl
 agree true false P Q da db f g = sym (db.1 (f (da.0 refl)))
 agree false true P Q da db f g = da.1 (g (db.0 refl))
-
--- octets are the same exactly where their bits are
-pub same_as_bits : (a b : List ℕ) → Octets a → Octets b → bytes_eq a b ≡ pointwise same_bit (bits_of a) (bits_of b)
-same_as_bits a b fa fb =
-    agree (bytes_eq a b) (pointwise same_bit (bits_of a) (bits_of b)) (a ≡ b) (bits_of a ≡ bits_of b)
-    (bytes_eq-Decides a b) (bits_are (bits_of a) (bits_of b)) (ap bits_of) (octets_by_bits a b fa fb)
 
 -- ---- PDUs that are named
 

@@ -108,6 +108,7 @@ fn payload_size(item: Item<'_>) -> usize
     }
 }
 
+// Whether octets are 0: the first one is, and each is as the one before it.
 fn are_zero(octets: &[u8]) -> bool
     ensures { result ≡ are_zero octets.now }
 {

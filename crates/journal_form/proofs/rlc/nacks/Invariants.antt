@@ -1,9 +1,0 @@
-use Rattle.std.proofs.Common.{◌≡◌, ◌++◌, length}
-use Rattle.rlc_pdu.specs.Views.{nacks_of}
-use Rattle.journal_form.proofs.rlc.nacks.Given as goal
-
-abbrev pub invariant-loop-nack : goal.invariant-loop-nack
-invariant-loop-nack l = l.nacks ++ nacks_of l.entries ≡ nacks_of l.fn.entries
-
-abbrev pub decreases-loop-nack : goal.decreases-loop-nack
-decreases-loop-nack l = length (nacks_of l.entries)
