@@ -1,10 +1,11 @@
 -- The pieces of a text, and the text of pieces.
-use Rattle.std.proofs.Common.{◌≡◌, ◌≢◌, ◌<◌, ◌+◌, ◌==◌, ◌∙◌, ℕ, zero, suc, true, false, Bool, if◌then◌else◌, List, []}
-use Rattle.std.proofs.Common.{◌∷◌, ◌++◌, length, take, drop, slice_index, Option, Some, None, refl, sym, ap, arith}
-use Rattle.std.proofs.Common.{append_assoc, append-nil}
-use Rattle.std.proofs.lemmas.List.{length-append}
+use Rattle.std.proofs.Common.{◌≡◌, ◌≢◌, ◌<◌, ◌≤◌, ◌+◌, ◌-◌, ◌==◌, ◌∙◌, ℕ, zero, suc, true, false, Bool, List, []}
+use Rattle.std.proofs.Common.{◌∷◌, ◌++◌, length, take, drop, slice_index, Option, Some, None, inl, inr, refl, sym, ap}
+use Rattle.std.proofs.Common.{append_assoc, append-nil, if◌then◌else◌, arith}
+use Rattle.std.proofs.lemmas.Bool.{cases_lt}
+use Rattle.std.proofs.lemmas.List.{length-append, length-drop, get_or-drop}
 use Rattle.std.specs.Borrow.{Bor}
-use Rattle.memchr.specs.Find.{IsFirstByte, is_byte}
+use Rattle.memchr.specs.Find.{Nowhere, Passes, IsFirstByte, is_byte}
 use Rattle.air_text.specs.Words.{texts}
 use Rattle.air_record.specs.Text.{worded, ended, commas, comma_before}
 use Rattle.journal_text.specs.Pieces.{before, behind, onto_first, pieces, left, parts, glued}
@@ -75,6 +76,45 @@ pieces_split at (x ∷ xs) =
       | true ↦ refl
       | false ↦ ap (onto_first x) (pieces_split at xs)
     ]
+
+-- ---- the first of a kind behind octets that aren't of it
+
+abbrev pub Free : ℕ → ℕ → List ℕ → Type 0
+Free at near text = Nowhere (Passes (is_byte at) text) 0 near
+
+far_test : (at near k : ℕ) (text : List ℕ) → near ≤ k → Passes (is_byte at) text k
+    → Passes (is_byte at) (drop near text) (k - near)
+far_test at near k text behind here =
+    let place : near + (k - near) ≡ k = omega (arith, behind) in
+    ap (is_byte at) (get_or-drop near text (k - near) 0 ∙ ap (slice_index text) place) ∙ here
+
+-- up to a place behind those
+free_to : (at near place : ℕ) (text : List ℕ) → Free at near text → Free at place (drop near text)
+    → Free at (near + place) text
+free_to at near place text free first k low less here =
+    elim (cases_lt k near) as (λ w. ⊥) [
+      | inl before ↦ free k low before here
+      | inr behind ↦
+          first (k - near) (omega arith) (omega (arith, behind, less)) (far_test at near k text behind here)
+    ]
+
+pub first_far : (at near : ℕ) (text : List ℕ) → near ≤ length text → Free at near text
+    → IsFirstByte (is_byte at) (drop near text) None → IsFirstByte (is_byte at) text None
+first_far at near text within free first k low less =
+    let long = length-drop near text in
+    free_to at near (length (drop near text)) text free first k low (omega (arith, long, within, less))
+
+pub place_far : (at near place : ℕ) (text : List ℕ) → near ≤ length text → Free at near text
+    → IsFirstByte (is_byte at) (drop near text) (Some place) → IsFirstByte (is_byte at) text (Some (near + place))
+place_far at near place text within free first =
+    let long = length-drop near text in (
+      record {
+        low = omega arith;
+        high = omega (arith, long, within, first.0.high);
+        before = free_to at near place text free first.0.before;
+      },
+      ap (is_byte at) (sym (get_or-drop near text place 0)) ∙ first.1,
+    )
 
 pub ruleset splits = (split_none, split_some, glued_again, pieces_split)
 

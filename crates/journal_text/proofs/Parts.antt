@@ -1,7 +1,7 @@
 -- Words of which the last is what is left of a text, unsearched, and all words of it.
-use Rattle.std.proofs.Common.{◌≡◌, ◌<◌, ◌≤◌, ◌+◌, ◌∙◌, ◌==◌, ℕ, zero, suc, Bool, true, false, List, [], ◌∷◌, ◌++◌}
+use Rattle.std.proofs.Common.{◌≡◌, ◌≤◌, ◌∙◌, ◌==◌, ℕ, zero, suc, Bool, true, false, List, [], ◌∷◌, ◌++◌}
 use Rattle.std.proofs.Common.{length, Option, Some, None, Result, Ok, Err, if◌then◌else◌, refl, sym, ap, subst, arith}
-use Rattle.std.proofs.Common.{append-nil, append_assoc, codes, MatchResult}
+use Rattle.std.proofs.Common.{append-nil, append_assoc, codes}
 use Rattle.std.specs.Str.{bytes_eq}
 use Rattle.std.proofs.lemmas.Slice.Eq.{bytes_eq-Decides}
 use Rattle.hex.specs.Hex.{hex_digit_value, decode_of}
@@ -9,14 +9,13 @@ use Rattle.hex.specs.declared.error.FromHexError.{FromHexError}
 use Rattle.std.specs.List.{list_all}
 use Rattle.text_digits.specs.Pairs.{with_pair, is_no_capital}
 use Rattle.text_digits.proofs.DecodeLaws.{Says, with-none, with-nothing}
-use Rattle.l2_types.specs.declared.side.Side.{Side}
 use Rattle.air_record.specs.declared.record.Record.{Record}
-use Rattle.air_record.specs.Text.{worded, ended}
+use Rattle.air_record.specs.Text.{worded}
 use Rattle.journal_text.specs.declared.fault.TextFault.{TextFault}
 use Rattle.journal_text.specs.declared.fault.TextFault.TheVariants.{NotARecord, NoMemory}
 use Rattle.journal_text.specs.Answers.{Gives, none, ◌>>=◌}
 use Rattle.journal_text.specs.Blocks.{block_of}
-use Rattle.journal_text.specs.Events.{up_of, channel_event_of, event_of}
+use Rattle.journal_text.specs.Events.{up_of, event_of}
 use Rattle.journal_text.specs.Fields.{octets_of, octets_in, number_to}
 use Rattle.journal_text.specs.Names.{side_of, direction_of, fresh_of}
 use Rattle.journal_text.specs.Pieces.{before, behind, pieces, left, parts, glued}

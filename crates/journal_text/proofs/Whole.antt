@@ -19,7 +19,7 @@ use Rattle.journal_text.specs.Answers.{Gives}
 use Rattle.journal_text.specs.Pieces.{before, behind, pieces}
 use Rattle.journal_text.specs.Reading.{line_in, line_of, words_of, read_text}
 use Rattle.journal_text.specs.Records.{IsOwnLine, HasText, IsSaid}
-use Rattle.journal_text.proofs.Cuts.{are_free, joined_by, words_again, worded-joined, pieces-joined, pieces_split}
+use Rattle.journal_text.proofs.Cuts.{are_free, joined_by, worded-joined, pieces-joined, pieces_split}
 use Rattle.journal_text.proofs.Cuts.{before-rest}
 use Rattle.journal_text.proofs.Numbers.{number-back, number-free}
 use Rattle.journal_text.proofs.Many.{too_many}

@@ -15,9 +15,10 @@ use crate::events::event;
 use crate::fault::TextFault;
 use crate::fields::{number, says};
 use crate::pdus::{mac, pdcp, rlc};
-use crate::pieces::{split, words};
+use crate::pieces::{add_words, split};
 use air_record::{BoxedLine, Line, Record, append_accepted};
 use air_text::{LineFault, read_line};
+use arrayvec::ArrayVec;
 use l2_bits::{Bytes, NoMemory};
 use std::alloc::Global;
 
@@ -170,8 +171,9 @@ pub fn read_text(alloc: Global, text: &[u8]) -> Result<Record, TextFault>
     if says(first, b"line") {
         return line(alloc, text, rest);
     }
-    let Some(words) = words(first, rest, searched(first)) else {
+    let mut words = ArrayVec::new();
+    if !add_words(&mut words, first, rest, searched(first)) {
         return Err(TextFault::NotARecord);
-    };
+    }
     record(alloc, words.as_slice())
 }

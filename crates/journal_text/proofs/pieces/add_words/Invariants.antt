@@ -1,7 +1,7 @@
 use Rattle.std.proofs.Common.{◌≡◌, ◌≤◌, ◌+◌, ◌-◌, ◌∷◌, ◌++◌, length}
 use Rattle.air_text.specs.Words.{texts}
 use Rattle.journal_text.specs.Pieces.{parts, text_in}
-use Rattle.journal_text.proofs.pieces.words.Given as goal
+use Rattle.journal_text.proofs.pieces.add_words.Given as goal
 
 abbrev pub invariant-loop-rest : goal.invariant-loop-rest
 invariant-loop-rest l = record {
