@@ -92,7 +92,7 @@ with_up octets a =
 -- ---- what is told of an SDU
 
 abbrev pub with_told : SduTold → AwaitedSdus → AwaitedSdus
-with_told (sdus.Submitted octets) a = with_sdu octets.now a
+with_told (sdus.Submitted octets) a = with_sdu octets a
 with_told (sdus.Taken count) a = with_taken count a
 with_told sdus.Discarded a = with_discarded a
 with_told (sdus.HandedUp octets) a = with_up octets.now a

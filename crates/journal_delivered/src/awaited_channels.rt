@@ -66,11 +66,11 @@ fn came(flows: &JournalFlows, side: Side, lcid: u8) -> u64
     }
 }
 
-fn end_slot(slot: &mut Option<AwaitedSdus>, came: u64)
-    ensures { slot.new ≡ option_map (with_end came) slot.old }
+fn end_slot(slot: &mut Option<AwaitedSdus>, side: Side, lcid: u8, flows: &JournalFlows)
+    ensures { slot.new ≡ option_map (with_end (came_at side flows.now lcid)) slot.old }
 {
     if let Some(sdus) = slot {
-        sdus.end(came);
+        sdus.end(came(flows, side, lcid));
     }
 }
 
@@ -81,8 +81,7 @@ pub(crate) fn end(channels: &mut Channels, side: Side, flows: &JournalFlows)
 {
     let mut at = 0;
     while at < channels.len() {
-        let came = came(flows, side, at as u8);
-        end_slot(&mut channels[at], came);
+        end_slot(&mut channels[at], side, at as u8, flows);
         at += 1;
     }
 }

@@ -15,10 +15,10 @@ use std::mem;
 type Sdus = VecDeque<Bytes>;
 
 // What is told of the SDUs of one direction.
-#[derive(Clone, Copy)]
+#[derive(Drop)]
 pub(crate) enum SduTold<'a> {
     // One is submitted, by a line or by the test loop.
-    Submitted(&'a [u8]),
+    Submitted(Bytes),
     // RLC takes that of a COUNT.
     Taken(u32),
     // The first that waits is discarded.
@@ -103,7 +103,7 @@ impl AwaitedSdus {
         ensures { OnOk result (self.new ≡ with_told what.entry self.old) }
     {
         match what {
-            SduTold::Submitted(octets) => self.submit(octets),
+            SduTold::Submitted(sdu) => self.submit(sdu),
             SduTold::Taken(count) => self.take(count),
             SduTold::Discarded => {
                 self.discard();
@@ -122,10 +122,9 @@ impl AwaitedSdus {
     }
 
     // An SDU waits, or has a COUNT already where more were taken than there were.
-    fn submit(&mut self, octets: &[u8]) -> Result<(), NoMemory>
-        ensures { OnOk result (self.new ≡ with_sdu octets.now self.old) }
+    fn submit(&mut self, sdu: Bytes) -> Result<(), NoMemory>
+        ensures { OnOk result (self.new ≡ with_sdu sdu self.old) }
     {
-        let sdu = Bytes::from_slice(self.alloc, octets)?;
         if (self.taken.len() as u64) < self.next - self.low {
             self.taken.push_back(sdu)?;
         } else {
@@ -189,6 +188,9 @@ impl AwaitedSdus {
     fn settle(&mut self)
         ensures { self.new ≡ settled self.old }
     {
+        if self.early.is_empty() {
+            return;
+        }
         let early = mem::replace(&mut self.early, VecDeque::new(self.alloc));
         self.compare_all(early);
     }

@@ -9,7 +9,7 @@ use crate::awaited_sdus::{AwaitedSdus, SduTold};
 use air_record::{Line, Record, Submission};
 use bearer_types::{BearerConfig, Event, other};
 use journal_flows::JournalFlows;
-use l2_bits::NoMemory;
+use l2_bits::{Bytes, NoMemory};
 use l2_types::{Kind, Side};
 use std::alloc::Global;
 use std::marker::Model;
@@ -96,13 +96,16 @@ impl DeliveredChecker {
         ensures { OnOk result
             (self.new ≡ released (unrefused one.now self.old.submitted) self.old) }
     {
+        if self.submitted.is_none() {
+            return Ok(());
+        }
         let Some(sdu) = self.submitted.take() else {
             return Ok(());
         };
         if one.refuses(sdu.side, sdu.lcid) {
             return Ok(());
         }
-        self.submit(&sdu)
+        self.submit(sdu)
     }
 
     /// The group has ended: with the next `line` record, the first `sum`, or the journal. `flows`
@@ -112,7 +115,7 @@ impl DeliveredChecker {
         ensures { OnOk result (self.new ≡ after_group flows.now self.old) }
     {
         if let Some(sdu) = self.submitted.take() {
-            self.submit(&sdu)?;
+            self.submit(sdu)?;
         }
         self.end(flows);
         Ok(())
@@ -135,14 +138,11 @@ impl DeliveredChecker {
     }
 
     // The SDU of the group's line is submitted.
-    fn submit(&mut self, sdu: &Submission) -> Result<(), NoMemory>
-        ensures { OnOk result (self.new ≡ submits_own (Some sdu.now) self.old) }
+    fn submit(&mut self, sdu: Submission) -> Result<(), NoMemory>
+        ensures { OnOk result (self.new ≡ submits_own (Some sdu) self.old) }
     {
-        self.tell(
-            sdu.side,
-            sdu.lcid,
-            SduTold::Submitted(sdu.octets.as_slice()),
-        )
+        let Submission { side, lcid, octets } = sdu;
+        self.tell(side, lcid, SduTold::Submitted(octets))
     }
 
     fn tell_record(&mut self, one: &Record) -> Result<(), NoMemory>
@@ -151,7 +151,8 @@ impl DeliveredChecker {
         match one {
             Record::Of { side, event } => self.happen(*side, event),
             Record::Looped { lcid, octets } => {
-                self.tell(Side::Ue, *lcid, SduTold::Submitted(octets.as_slice()))
+                let sdu = Bytes::from_slice(self.alloc, octets.as_slice())?;
+                self.tell(Side::Ue, *lcid, SduTold::Submitted(sdu))
             }
             _ => Ok(()),
         }

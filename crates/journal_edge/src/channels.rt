@@ -153,21 +153,21 @@ pub(crate) fn are_right(channels: &Channels) -> bool
     true
 }
 
-fn close_slot(slot: &mut Option<EdgeFlow>, renewal: Option<Keys>)
-    ensures { slot.new ≡ slot_closed renewal slot.old }
+fn close_slot(slot: &mut Option<EdgeFlow>, renewal: &Option<Keys>)
+    ensures { slot.new ≡ slot_closed renewal.now slot.old }
 {
     if let Some(flow) = slot {
         flow.end_group();
         if let Some(keys) = renewal {
-            flow.renew(&keys);
+            flow.renew(keys);
         }
     }
 }
 
 // The group has ended; where it was of a handover, the next life has other keys.
 #[tactic(auto, using(crate::proofs::Walks::closes))]
-pub(crate) fn close(channels: &mut Channels, renewal: Option<Keys>)
-    ensures { channels.new.items ≡ slots_closed renewal channels.old.items }
+pub(crate) fn close(channels: &mut Channels, renewal: &Option<Keys>)
+    ensures { channels.new.items ≡ slots_closed renewal.now channels.old.items }
 {
     let mut at = 0;
     while at < channels.len() {

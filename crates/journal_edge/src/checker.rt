@@ -67,7 +67,8 @@ impl Model for EdgeChecker {
 impl EdgeChecker {
     ghost use Rattle.journal_edge.specs.EdgeChecking.{nothing_checked, with_bearer, after_line};
     ghost use Rattle.journal_edge.specs.EdgeChecking.{after_record, leaves, up_from, left_by};
-    ghost use Rattle.journal_edge.specs.EdgeChecking.{slot_at, after_group, group_leaves, group_closed};
+    ghost use Rattle.journal_edge.specs.EdgeChecking.{slot_at, after_group, group_leaves};
+    ghost use Rattle.journal_edge.specs.EdgeChecking.{group_closed};
 
     /// Before the first line. It takes no memory.
     pub fn new(alloc: Global) -> EdgeChecker
@@ -168,8 +169,8 @@ impl EdgeChecker {
         ensures { self.new ≡ group_closed self.old }
     {
         self.right = self.right && channels::are_right(&self.nb) && channels::are_right(&self.ue);
-        channels::close(&mut self.nb, self.renewal);
-        channels::close(&mut self.ue, self.renewal);
+        channels::close(&mut self.nb, &self.renewal);
+        channels::close(&mut self.ue, &self.renewal);
         if let Some(keys) = self.renewal {
             self.keys = keys;
         }

@@ -87,7 +87,8 @@ impl UmReader {
     }
 
     fn decipher(&self, count: u32, text: &[u8]) -> Result<Bytes, NoMemory>
-        ensures { IfOk result (λ octets. octets ≡ ciphered_with self.now.protection count text.now) }
+        ensures { IfOk result
+            (λ octets. octets ≡ ciphered_with self.now.protection count text.now) }
     {
         let mut octets = Vec::from_slice(self.alloc, text)?;
         self.security.apply(count, &mut octets);

@@ -109,8 +109,8 @@ impl Sender {
     }
 
     // Whether it has told nothing that a group's end looks at.
-    pub(crate) fn is_at_rest(self) -> bool
-        ensures { result ≡ is_at_rest self }
+    pub(crate) fn is_at_rest(&self) -> bool
+        ensures { result ≡ is_at_rest self.now }
     {
         !self.failed
             && self.told.is_none()

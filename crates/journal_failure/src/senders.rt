@@ -74,8 +74,8 @@ pub(crate) fn end(senders: &mut Senders, side: Side, hands_over: bool, flows: &J
     let mut at = 0;
     while at < senders.len() {
         let limit = limit(flows, side, at as u8);
-        let sender = senders[at];
-        if limit.is_some() || !sender.is_at_rest() {
+        if limit.is_some() || !senders[at].is_at_rest() {
+            let sender = senders[at];
             are_right = are_right & sender.is_right(limit);
             senders[at] = sender.with_end(hands_over, limit);
         }

@@ -267,7 +267,7 @@ impl JournalFlows {
             return Err(NoMemory);
         }
         let from = sender_of(direction);
-        let named = match from {
+        let mut named = match from {
             Side::Nb => self.nb.take_named(),
             Side::Ue => self.ue.take_named(),
         };
@@ -278,12 +278,12 @@ impl JournalFlows {
             flows,
             from,
             direction,
-            named,
+            &mut named,
             octets,
         )?;
         match from {
-            Side::Nb => self.nb.hold(process, parcels),
-            Side::Ue => self.ue.hold(process, parcels),
+            Side::Nb => self.nb.hold(process, parcels, named),
+            Side::Ue => self.ue.hold(process, parcels, named),
         }
         Ok(())
     }

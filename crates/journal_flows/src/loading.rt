@@ -71,15 +71,14 @@ fn load_all(
     kinds: &Kinds,
     flows: &mut Accounts,
     from: Side,
-    named: Items<Named>,
+    named: &mut Items<Named>,
     reader: MacReader<'_>,
 ) -> Result<Items<Parcel>, NoMemory>
     ensures { IfOk result (λ parcels. record { flows = flows.new; parcels = parcels }
-        ≡ loads accounts kinds.now from named (sdus_in reader.entry)
+        ≡ loads accounts kinds.now from named.old (sdus_in reader.entry)
         (record { flows = flows.old; parcels = [] })) }
 {
     let mut reader = reader;
-    let mut named = named;
     let mut parcels = Items::new(alloc);
     while let Some(item) = reader.next() {
         if let Item::Sdu { octets, .. } = item {
@@ -93,7 +92,8 @@ fn load_all(
     Ok(parcels)
 }
 
-// A block of fewer than 2^28 octets is written: its PDUs are those that are named, in their order.
+// A block of fewer than 2^28 octets is written: its PDUs are those that are named, in their order,
+// which are taken out.
 #[tactic(auto, using(crate::proofs::Loads::none_left))]
 pub(crate) fn load_block(
     alloc: Global,
@@ -101,12 +101,12 @@ pub(crate) fn load_block(
     flows: &mut Accounts,
     from: Side,
     direction: Direction,
-    named: Items<Named>,
+    named: &mut Items<Named>,
     octets: &[u8],
 ) -> Result<Items<Parcel>, NoMemory>
     requires { length octets.now < OCTETS_LIMIT }
     ensures { IfOk result (λ parcels. record { flows = flows.new; parcels = parcels }
-        ≡ loads accounts kinds.now from named (sdus_read (reading direction octets.now))
+        ≡ loads accounts kinds.now from named.old (sdus_read (reading direction octets.now))
         (record { flows = flows.old; parcels = [] })) }
 {
     match MacReader::parse(direction, octets) {

@@ -86,11 +86,16 @@ impl Sending {
         mem::replace(&mut self.named, Items::new(self.alloc))
     }
 
-    // A new block of a process is sent, with these PDUs.
-    pub(crate) fn hold(&mut self, process: u32, parcels: Items<Parcel>)
+    // A new block of a process is sent, with these PDUs. The list of those that were named for it
+    // keeps its memory for the next ones.
+    pub(crate) fn hold(&mut self, process: u32, parcels: Items<Parcel>, named: Items<Named>)
         ensures { self.new ≡ holds process parcels self.old }
     {
-        self.named = Items::new(self.alloc);
+        self.named = if named.is_empty() {
+            named
+        } else {
+            Items::new(self.alloc)
+        };
         put(&mut self.held, process, parcels);
         self.process = process;
     }

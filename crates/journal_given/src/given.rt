@@ -164,6 +164,9 @@ impl JournalGiven {
     pub fn settle(&mut self, one: &Record) -> Result<(), NoMemory>
         ensures { OnOk result (self.new ≡ settled accounts one.now self.old) }
     {
+        if self.submitted.is_none() {
+            return Ok(());
+        }
         let Some(Submission { side, lcid, octets }) = self.submitted.take() else {
             return Ok(());
         };

@@ -114,6 +114,9 @@ impl QueueChecker {
         ensures { OnOk result
             (self.new ≡ released (unrefused one.now self.old.submitted) self.old) }
     {
+        if self.submitted.is_none() {
+            return Ok(());
+        }
         let Some(sdu) = self.submitted.take() else {
             return Ok(());
         };

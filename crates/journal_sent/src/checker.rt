@@ -205,6 +205,9 @@ impl SentChecker {
     fn settle(&mut self, one: &Record) -> Result<(), NoMemory>
         ensures { OnOk result (self.new ≡ settled one.now self.old) }
     {
+        if self.submitted.is_none() {
+            return Ok(());
+        }
         let Some(sdu) = self.submitted.take() else {
             return Ok(());
         };
@@ -530,8 +533,8 @@ impl SentChecker {
     fn close(&mut self, given: &JournalGiven) -> Result<(), NoMemory>
         ensures { OnOk result (self.new ≡ closed accounts given.now self.old) }
     {
-        flows::close(&mut self.nb, self.renewal, Side::Nb, given)?;
-        flows::close(&mut self.ue, self.renewal, Side::Ue, given)?;
+        flows::close(&mut self.nb, &self.renewal, Side::Nb, given)?;
+        flows::close(&mut self.ue, &self.renewal, Side::Ue, given)?;
         self.named_nb = Items::new(self.alloc);
         self.named_ue = Items::new(self.alloc);
         self.passed = None;

@@ -489,14 +489,14 @@ impl Flow {
     // The group has ended; where it was of a handover, the next life has other keys.
     pub(crate) fn close(
         &mut self,
-        renewal: Option<Keys>,
+        renewal: &Option<Keys>,
         account: Option<&FlowLives>,
     ) -> Result<(), NoMemory>
         ensures { OnOk result (self.new ≡ flow_settled accounts (option_copied account.entry)
-            (renewed_by accounts renewal self.old)) }
+            (renewed_by accounts renewal.now self.old)) }
     {
         if let Some(keys) = renewal {
-            self.renew(&keys);
+            self.renew(keys);
         }
         self.settle(account)
     }

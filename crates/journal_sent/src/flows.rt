@@ -180,12 +180,13 @@ pub(crate) fn judge(
 
 fn close_on(
     slot: &mut Option<Flow>,
-    renewal: Option<Keys>,
+    renewal: &Option<Keys>,
     side: Side,
     given: &JournalGiven,
     lcid: u8,
 ) -> Result<(), NoMemory>
-    ensures { OnOk result (slot.new ≡ flow_closed accounts renewal side given.now lcid slot.old) }
+    ensures { OnOk result
+        (slot.new ≡ flow_closed accounts renewal.now side given.now lcid slot.old) }
 {
     match slot {
         Some(flow) => flow.close(renewal, given.flows().flow(side, lcid)),
@@ -197,12 +198,12 @@ fn close_on(
 #[tactic(auto, using(journal_given::proofs::Channels::walks))]
 pub(crate) fn close(
     flows: &mut Flows,
-    renewal: Option<Keys>,
+    renewal: &Option<Keys>,
     side: Side,
     given: &JournalGiven,
 ) -> Result<(), NoMemory>
     ensures { OnOk result (flows.new.items
-        ≡ each_from (flow_closed accounts renewal side given.now) 0 flows.old.items) }
+        ≡ each_from (flow_closed accounts renewal.now side given.now) 0 flows.old.items) }
 {
     let mut at = 0;
     while at < flows.len() {
