@@ -9,6 +9,7 @@ use crate::fault::{CheckFault, CheckWhy};
 use crate::judge::Judge;
 use crate::order::RecordOrder;
 use air_record::{Line, Record, State};
+use journal_text::read_text;
 use mac_pdu::Direction;
 use std::alloc::Global;
 use std::marker::Model;
@@ -132,8 +133,12 @@ impl Checker {
     fn take(&mut self, text: &[u8]) -> Result<(), CheckFault>
         ensures { (r : GroupedRecords) → HasFed r self.old → TakesText r text.now result self.new }
     {
-        let one = self.order.read(self.alloc, text)?;
-        self.stand(&one)
+        self.order.may_read(text)?;
+        let read = read_text(self.alloc, text);
+        match &read {
+            Ok(one) => self.stand(one),
+            Err(fault) => Err(self.order.unread(text, *fault)),
+        }
     }
 
     // A record comes behind those so far.

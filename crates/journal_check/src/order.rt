@@ -1,7 +1,9 @@
-ghost use Rattle.std.specs.Prelude.{◌≡◌, ◌+◌, ◌<◌, ◌≤◌, OnOk};
+ghost use Rattle.std.specs.Prelude.{◌≡◌, ◌+◌, ◌<◌, ◌≤◌, length, Err, OnOk, IfErr};
 ghost use Rattle.air_record.specs.declared.record.Record.{Record};
 ghost use Rattle.journal_check.specs.declared.fault.CheckFault.TheVariants.{Refused};
 ghost use Rattle.journal_check.specs.declared.limits.TheConstants.{MOST_RECORDS};
+ghost use Rattle.journal_check.specs.declared.limits.TheConstants.{LONGEST_RECORD};
+ghost use Rattle.journal_text.specs.Records.{HasText};
 ghost use Rattle.journal_check.specs.Checks.{ReadsNext, TellsRecords, AdmitsNext};
 ghost use Rattle.journal_check.specs.Grouped.{GroupedRecords};
 ghost use Rattle.journal_check.specs.States.{no_order, line_fault, fault_by, behind_record};
@@ -11,7 +13,7 @@ use crate::fault::{CheckFault, CheckWhy};
 use crate::limits::{LONGEST_RECORD, MOST_RECORDS};
 use crate::rules::{LineRules, forges};
 use air_record::{Line, Record};
-use journal_text::{TextFault, read_text};
+use journal_text::TextFault;
 use l2_bits::NoMemory;
 use std::alloc::Global;
 use std::marker::Model;
@@ -86,9 +88,11 @@ impl RecordOrder {
         }
     }
 
-    /// The record of the next text.
-    pub fn read(&self, alloc: Global, text: &[u8]) -> Result<Record, CheckFault>
-        ensures { ReadsNext self.now.count text.now result }
+    /// Whether the next text may be read: there may be a record more, and it isn't too long.
+    pub fn may_read(&self, text: &[u8]) -> Result<(), CheckFault>
+        ensures room { OnOk result ((self.now.count < MOST_RECORDS)
+            × (length text.now ≤ LONGEST_RECORD)) }
+        ensures none { IfErr result (λ fault. ReadsNext self.now.count text.now (Err fault)) }
     {
         if MOST_RECORDS <= self.count {
             return Err(self.refused(CheckWhy::Records));
@@ -96,10 +100,19 @@ impl RecordOrder {
         if LONGEST_RECORD < text.len() {
             return Err(self.refused(CheckWhy::Text));
         }
-        match read_text(alloc, text) {
-            Ok(one) => Ok(one),
-            Err(TextFault::NotARecord) => Err(self.refused(CheckWhy::Text)),
-            Err(TextFault::NoMemory) => Err(CheckFault::NoMemory),
+        Ok(())
+    }
+
+    /// What is answered to the next text, of which no record was read.
+    pub fn unread(&self, text: &[u8], fault: TextFault) -> CheckFault
+        requires room { self.now.count < MOST_RECORDS }
+        requires none { fault ≡ TextFault.NotARecord
+            → (one : Record) → HasText text.now one → ⊥ }
+        ensures { ReadsNext self.now.count text.now (Err result) }
+    {
+        match fault {
+            TextFault::NotARecord => self.refused(CheckWhy::Text),
+            TextFault::NoMemory => CheckFault::NoMemory,
         }
     }
 
