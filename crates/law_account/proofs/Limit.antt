@@ -215,7 +215,7 @@ in_sn : (base : ℕ) (o : Option ℕ) → limit_in false base o ≡ sn_of (place
 in_sn base None = refl
 in_sn base (Some at) = refl
 
-in_failed : (base : ℕ) (o : Option ℕ) → limit_in true base o ≡ None
+pub in_failed : (base : ℕ) (o : Option ℕ) → limit_in true base o ≡ None
 in_failed base None = refl
 in_failed base (Some at) = refl
 
@@ -223,7 +223,7 @@ some_placed : (base : ℕ) (o : Option ℕ) → is_some (limit_in false base o) 
 some_placed base None = refl
 some_placed base (Some at) = refl
 
-none_limit : (o : Option ℕ) → false ≡ is_some o → o ≡ None
+pub none_limit : (o : Option ℕ) → false ≡ is_some o → o ≡ None
 none_limit None e = refl
 none_limit (Some n) e = absurd cc
 

@@ -26,20 +26,20 @@ use Rattle.law_account.specs.Taken.{taken_in, TakesAreAccounted, TakesAreLimited
 use Rattle.law_account.proofs.Sending.{writes_accounted, resends_accounted, segments_accounted}
 use Rattle.law_account.proofs.Limit.{sending_limited}
 
-is_whole : (s : State) (size : ℕ) (held : Option ℕ) (more : Bool) → turn s size held more ≡ turns.Whole
+pub is_whole : (s : State) (size : ℕ) (held : Option ℕ) (more : Bool) → turn s size held more ≡ turns.Whole
     → waits s ≡ true
 unfolding turn
 is_whole s size held more e = grind (arith, common_steps, nat_tests)
 
 -- it has an octet that waits
-has_octet : (h : Sent) → is_waiting h ≡ true → 0 < length h.field
+pub has_octet : (h : Sent) → is_waiting h ≡ true → 0 < length h.field
 has_octet h w = by (first_waiting h) (gap-lies h.resting 0 (length h.field)) w
   where
     by : (o : Option Part) → IfSome o (Lies 0 (length h.field)) → is_some o ≡ true → 0 < length h.field
     by None l w = absurd cc
     by (Some p) l w = omega (arith, l.below)
 
-turn_accounted : (t : Turn) (s : State) (f : FlowSending) (size : ℕ) (more : Bool)
+pub turn_accounted : (t : Turn) (s : State) (f : FlowSending) (size : ℕ) (more : Bool)
     → (t ≡ turns.Whole → waits s ≡ true) → (t ≡ turns.Part → (waits s ≡ true) × (5 ≤ size))
     → AreAccounted s.config.max_retx s.window f
     → AreAccounted s.config.max_retx (after_turn t s size more).window (taken_in t s size f)
@@ -75,7 +75,7 @@ pub takes_accounted : TakesAreAccounted
 takes_accounted s f size held more a =
     turn_accounted (turn s size held more) s f size more (is_whole s size held more) (is-part s size held more) a
 
-turn_limited : (t : Turn) (s : State) (f : FlowSending) (size : ℕ) → IsLimited s.failed f
+pub turn_limited : (t : Turn) (s : State) (f : FlowSending) (size : ℕ) → IsLimited s.failed f
     → IsLimited s.failed (taken_in t s size f)
 turn_limited turns.Whole s f size l =
     (sending_limited s.failed f l).resent (number_again s) 0 (length (again s).field)

@@ -4,3 +4,13 @@ pub mod Expired
 pub mod Limit
 pub mod Taken
 pub mod TrueStatus
+pub mod Receiving
+pub mod Reporting
+pub mod FlowReceiving
+pub mod LateStatus
+pub mod History
+pub mod FlowHistory
+pub mod EndsTold
+pub mod FlowReports
+pub mod Ignored
+pub mod HistoryRuns

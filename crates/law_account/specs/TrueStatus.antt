@@ -31,3 +31,9 @@ pub record HasTrueNumbers (w : TxWindow) (status : StatusPdu) (ack : ℕ)
 abbrev pub TrueStatusesAreHeard : Type 0
 TrueStatusesAreHeard = (s : State) (status : StatusPdu) (ack : ℕ) (entries : List StatusEntry)
     → HasTrueNumbers s.window status ack entries → IsHeard s status ack entries
+
+-- they are the only ones that a STATUS can have there
+abbrev pub TrueNumbersAreOne : Type 0
+TrueNumbersAreOne = (w : TxWindow) (status : StatusPdu) (ack other : ℕ)
+    (entries others : List StatusEntry) → HasTrueNumbers w status ack entries
+    → HasTrueNumbers w status other others → (ack ≡ other) × (entries ≡ others)
