@@ -13,7 +13,9 @@ pub mod Acts
 pub mod Air
 pub mod Accepting
 pub mod Links
+pub mod UnderWay
 pub mod Lives
 pub mod Events
 pub mod Alone
 pub mod Ups
+pub mod Reordering

@@ -3,5 +3,7 @@ pub mod Flows
 pub mod Channels
 pub mod Air
 pub mod Links
+pub mod UnderWay
 pub mod Lives
 pub mod Ups
+pub mod Reordering

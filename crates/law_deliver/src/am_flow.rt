@@ -6,6 +6,8 @@ ghost use Rattle.law_deliver.specs.AmFlow.Channels.{CallsReachBearers, BlocksCar
 ghost use Rattle.law_deliver.specs.AmFlow.Flows.{BearersAreFlows};
 ghost use Rattle.law_deliver.specs.AmFlow.Links.{ChannelsAreFlows, NumbersAreOrdered};
 ghost use Rattle.law_deliver.specs.AmFlow.Lives.{AddsBegin, MovesBegin};
+ghost use Rattle.law_deliver.specs.AmFlow.Reordering.{BearersTellReordering};
+ghost use Rattle.law_deliver.specs.AmFlow.UnderWay.{BlocksCarryFlows, StatusesAreOfReports};
 ghost use Rattle.law_deliver.specs.AmFlow.Ups.{EndsTellWhatGoesUp, EndsTellOver, MovesTellTheEnd};
 
 /// Whatever calls both ends of an acknowledged bearer get, where only PDUs come that the other end
@@ -46,6 +48,14 @@ pub fn channels_are_flows()
     ensures { ChannelsAreFlows }
 {}
 
+/// Whatever the blocks under way carry of the channel is under way in these flows: a data PDU in
+/// the one out, a STATUS, as old as its block, in the one back. One that reads as a STATUS has the
+/// ACK and the entries of such a report, with 10 bits of their numbers.
+pub fn blocks_carry_flows()
+    ensures carries { BlocksCarryFlows }
+    ensures reads { StatusesAreOfReports }
+{}
+
 /// A life of an acknowledged bearer begins, with RLC entities that begin, as the bearer is added
 /// and as its end moves.
 pub fn lives_begin()
@@ -77,4 +87,10 @@ pub fn ends_tell_over()
 /// bearer begins another.
 pub fn moves_tell_the_end()
     ensures { MovesTellTheEnd }
+{}
+
+/// In each of its calls an acknowledged bearer tells that t-Reordering starts, or expires, just
+/// where its receiver starts it and where it expires there, in this order.
+pub fn bearers_tell_reordering()
+    ensures { BearersTellReordering }
 {}

@@ -63,11 +63,11 @@ young side l s n h y =
 
 -- ---- both ends
 
-record BothMatch (l : ℕ) (b d : State) (a : Air) : Type 0 where
-  steps : List PairStep
-  given : AreGivenPair (am_pair_outset b d) steps
-  nb : Matches Nb l a.nb (pair_goes steps (am_pair_outset b d)).near
-  ue : Matches Ue l a.ue (pair_goes steps (am_pair_outset b d)).far
+pub record BothMatch (l : ℕ) (b d : State) (a : Air) : Type 0 where
+  pub steps : List PairStep
+  pub given : AreGivenPair (am_pair_outset b d) steps
+  pub nb : Matches Nb l a.nb (pair_goes steps (am_pair_outset b d)).near
+  pub ue : Matches Ue l a.ue (pair_goes steps (am_pair_outset b d)).far
 
 -- steps more of the pair
 more_match : (l : ℕ) (b d : State) (a c : Air) (h : BothMatch l b d a) (ts : List PairStep)
@@ -125,10 +125,14 @@ begins_so side l e b h = record {
   busy = λ q. q;
 }
 
+pub both_match : (l : ℕ) (nb ue : End) (b d : State) (steps : List Step) → Begins Nb l nb b → Begins Ue l ue d
+    → AreGiven l (outset nb ue) steps → BothMatch l b d (goes steps (outset nb ue))
+both_match l nb ue b d steps x y g =
+    goes_on l b d steps (outset nb ue) g
+    (record { steps = []; given = tt; nb = begins_so Nb l nb b x; ue = begins_so Ue l ue d y })
+
 pub channels_are_pairs : (l : ℕ) (nb ue : End) (b d : State) (steps : List Step) → Begins Nb l nb b → Begins Ue l ue d
     → AreGiven l (outset nb ue) steps → IsPair l b d (goes steps (outset nb ue))
 channels_are_pairs l nb ue b d steps x y g =
-    let h =
-    goes_on l b d steps (outset nb ue) g
-    (record { steps = []; given = tt; nb = begins_so Nb l nb b x; ue = begins_so Ue l ue d y }) in
+    let h = both_match l nb ue b d steps x y g in
     record { steps = h.steps; given = h.given; nb_is = h.nb.bearer_is; ue_is = h.ue.bearer_is }

@@ -20,8 +20,8 @@ use Rattle.law_deliver.specs.AmFlow.Pair.{BearerEnd}
 use Rattle.law_deliver.proofs.AmFlow.Air.{channels_are_pairs}
 use Rattle.law_deliver.proofs.AmFlow.Flows.{bearers_are_flows}
 
-on_ends : (l : ℕ) (a : AmTxConfig) (b : AmRxConfig) (e o : BearerEnd) (from to : End) → flow l from ≡ Am e.bearer
-    → flow l to ≡ Am o.bearer → HasFlow a b e o → IsFlowOn l a b from to
+abbrev pub on_ends : (l : ℕ) (a : AmTxConfig) (b : AmRxConfig) (e o : BearerEnd) (from to : End)
+    → flow l from ≡ Am e.bearer → flow l to ≡ Am o.bearer → HasFlow a b e o → IsFlowOn l a b from to
 on_ends l a b e o from to p q h = record {
   from_bearer = e.bearer;
   from_is = p;
