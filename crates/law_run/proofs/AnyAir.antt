@@ -38,6 +38,7 @@ use Rattle.law_run.specs.AnyCalls.Calls as calls
 use Rattle.law_run.specs.AnyCalls.Runs.{Step, Calls}
 use Rattle.law_run.specs.TwoEnds.Coming.{none_yet}
 use Rattle.law_run.specs.TwoEnds.Going.{GoesByAir, IsStepSince}
+use Rattle.law_run.specs.TwoEnds.Logs.{LogEntry, all_tell, log_of, logged}
 use Rattle.law_run.specs.TwoEnds.On.{IsOn}
 use Rattle.law_run.proofs.AnyCalls.Calling.{calls_adds}
 use Rattle.law_run.proofs.AnyCalls.Going.{Seen, told_seen, told_both, own_told, other_told, run_on, over_on}
@@ -45,10 +46,10 @@ use Rattle.law_run.proofs.Flowing.{Sdus, Happened, StepLives, GoesThrough, PartL
 use Rattle.law_run.proofs.BearerWalk.{adds_one}
 use Rattle.law_run.proofs.TwoEnds.Advancing.{both_on}
 use Rattle.law_run.proofs.TwoEnds.Coming.{ends_come_by, come_as, come_by_none, steps_come}
-use Rattle.law_run.proofs.TwoEnds.Going.{calm, station, with_station, last_in, tells_more}
+use Rattle.law_run.proofs.TwoEnds.Going.{calm, station, with_station, last_in, tells_more, logged_more}
 use Rattle.law_run.proofs.TwoEnds.Resting.{loops_rests}
 use Rattle.law_run.proofs.TwoEnds.Stages.{Both, Stands, stands_on, quiet_events, events_unlooped, none_looped}
-use Rattle.law_run.proofs.TwoEnds.Stages.{looped_more}
+use Rattle.law_run.proofs.TwoEnds.Stages.{looped_more, own_logged}
 use Rattle.law_run.proofs.TwoEnds.Stations.{Waits}
 
 -- an end comes by calls, as records tell, in which it is handed SDUs
@@ -59,7 +60,8 @@ pub record ComesBy (l : ℕ) (side : Side) (handed : List (List ℕ)) (told : Li
   pub told_is : events_of side told ≡ told_over calls e
   pub submitted_is : was_submitted l calls e ≡ handed ++ looped_at side l told
 
--- in a line: from an air that forged blocks may have changed both ends go on by steps
+-- in a line: from an air that forged blocks may have changed both ends go on by steps; what they tell of these blocks
+-- stands before what they tell, build and hear in the steps
 pub record Plays (l : ℕ) (ends : List AccountEntry) (p : Part) (k m : Link) : Type 0 where
   pub forged : Side → List (List ℕ)
   pub first : Air
@@ -68,6 +70,9 @@ pub record Plays (l : ℕ) (ends : List AccountEntry) (p : Part) (k m : Link) : 
   pub living : AreLiving l first steps
   pub happened_is : (bits : ℕ) (from : Side)
       → happened bits l from steps first ≡ ends ++ entries_in bits l from [] m.out
+  pub logged_is : logged [] m.out
+      ≡ (all_tell Nb (told_over (map Receive (forged Nb)) (end_of Nb k))
+      ++ all_tell Ue (told_over (map Receive (forged Ue)) (end_of Ue k))) ++ log_of steps first
   pub on : IsOn m (lives steps first)
   pub comes : (side : Side) → ComesBy l side (handed_in side l p m.out) m.out (end_of side k) (end_of side m)
 
@@ -103,7 +108,7 @@ module _ (l : ℕ) (a : Air) where
       → IsStepSince l s → Live told handed flown set k → StepLives l Live told handed flown set s k
   steps_fly told handed flown set s k g h =
       let x = steps_come l told handed flown set s k a g h in
-      record { more = x.more; out_is = x.out_is; alone = x.alone; lived = x.by }
+      record { more = x.more; out_is = x.out_is; alone = x.alone; log_alone = x.log_alone; lived = x.by }
 
   through : GoesThrough l Live
   through = record {
@@ -122,6 +127,7 @@ module _ (l : ℕ) (a : Air) where
     steps = x.lived.steps;
     living = x.lived.living;
     happened_is = λ bits from. x.lived.happened_is bits from;
+    logged_is = x.logged_are ∙ sym x.lived.logged_is;
     on = x.lived.on;
     comes = λ side. by_steps l side (handed_in side l p m.out) m.out (end_of side k) m x.lived.steps a
         (at_end side k a on) x.lived.living x.lived.on (x.told_are side ∙ x.lived.told_is side)
@@ -209,6 +215,15 @@ module _ (l : ℕ) (block : List ℕ) (k : Link) (a : Air) (nothing : k.out ≡ 
         };
       }
 
+  first_logged : (from : Side) → logged [] (told from)
+      ≡ all_tell Nb (told_over (map Receive (to from Nb)) (end_of Nb k))
+      ++ all_tell Ue (told_over (map Receive (to from Ue)) (end_of Ue k))
+  first_logged Nb =
+      own_logged Nb (es Nb) (tells_no_loop k.nb (Receive block)) []
+      ∙ (ap (all_tell Nb) (sym (append-nil (es Nb))) ∙ sym (append-nil (all_tell Nb (es Nb ++ []))))
+  first_logged Ue =
+      own_logged Ue (es Ue) (tells_no_loop k.ue (Receive block)) [] ∙ ap (all_tell Ue) (sym (append-nil (es Ue)))
+
   forged_plays : (from : Side) → Plays l [] Rests k (calls.after (calls.Forges from block) k)
   unfolding forges_block
   forged_plays from =
@@ -233,6 +248,13 @@ module _ (l : ℕ) (block : List ℕ) (k : Link) (a : Air) (nothing : k.out ≡ 
             ∙ (tells_more bits l side [] (told from) r.more
             ∙ ap (λ (hs : List AccountEntry). hs ++ entries_in bits l side last r.more)
             (quiet_events from (es from) ((writes_nothing (end_of from k)).receiving block) bits l side [])));
+        logged_is =
+            let last = last_in (told from) [] in
+            ap (logged []) out
+            ∙ (logged_more [] (told from) r.more
+            ∙ (ap (λ (hs : List LogEntry). hs ++ logged last r.more) (first_logged from)
+            ∙ ap (λ (hs : List LogEntry). (all_tell Nb (told_over (map Receive (to from Nb)) (end_of Nb k))
+            ++ all_tell Ue (told_over (map Receive (to from Ue)) (end_of Ue k))) ++ hs) (sym (r.goes.logs last tt))));
         on = on;
         comes = λ side.
             let e = end_of side k in

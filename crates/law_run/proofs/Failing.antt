@@ -1,6 +1,6 @@
 -- The sender of a bearer fails exactly in calls that tell so, once in a life, and sends no data PDU behind it.
-use Rattle.std.proofs.Common.{◌≡◌, ℕ, ◌-◌, Bool, true, false, if◌then◌else◌, Option, Some}
-use Rattle.std.proofs.Common.{None, List, [], ◌∷◌, refl, ap, sym, subst, ◌∙◌}
+use Rattle.std.proofs.Common.{◌≡◌, ℕ, ◌-◌, Bool, true, false, if◌then◌else◌, Option, Some, None, List, [], ◌∷◌, refl}
+use Rattle.std.proofs.Common.{ap, sym, subst, ◌∙◌}
 use Rattle.bearer.specs.declared.flow.Flow.{Flow}
 use Rattle.bearer.specs.declared.flow.Flow.TheVariants.{Tm, Um, Am}
 use Rattle.bearer.specs.Hearing.{arriving, arrived, expiry as flow_expiry, expired as flow_expired, ticking}
@@ -24,15 +24,15 @@ use Rattle.rlc_am_tx.specs.declared.answers.PollExpired.TheVariants as polls
 use Rattle.rlc_am_tx.specs.declared.turn.Turn.{Turn}
 use Rattle.rlc_am_tx.specs.declared.turn.Turn.TheVariants as turns
 use Rattle.rlc_am_tx.specs.Machine.{State as Sender, turn, after_turn, with_poll, is_wanted, sent_whole, sent_segment}
-use Rattle.rlc_am_tx.specs.Machine.{answer as rlc_answer, answer_of, limit_in}
-use Rattle.rlc_am_tx.specs.Machine.{sent_new, read, is_ignored, limit_of, stops, ended, heard_of}
-use Rattle.rlc_am_tx.specs.Machine.{applied, applied_heard, after_status, heard, recalled_place, with_recalled}
-use Rattle.rlc_am_tx.specs.Machine.{with_owed, expiry_limit, expiry_of, expiry as poll_expiry}
+use Rattle.rlc_am_tx.specs.Machine.{answer as rlc_answer, answer_of, limit_in, sent_new, read, is_ignored, limit_of}
+use Rattle.rlc_am_tx.specs.Machine.{stops, ended, heard_of, applied, applied_heard, after_status, heard, recalled_place}
+use Rattle.rlc_am_tx.specs.Machine.{with_recalled, with_owed, expiry_limit, expiry_of, expiry as poll_expiry}
 use Rattle.rlc_am_tx.specs.Machine.{after_expiry as after_poll, expired}
 use Rattle.rlc_pdu.specs.declared.pdu.Nack.{Nack}
 use Rattle.rlc_pdu.specs.Pdus.{StatusPdu}
 use Rattle.rlc_um.specs.Transparent.{taken as tm_taken}
-use Rattle.law_run.proofs.KeptByCalls.{Seen, poll_seen, read_told, IsKept, call_kept}
+use Rattle.law_run.specs.TwoEnds.SenderLog.{read_told}
+use Rattle.law_run.proofs.KeptByCalls.{Seen, poll_seen, IsKept, call_kept}
 use Rattle.law_run.proofs.Quiet.{Runs, runs_still, runs_sending, runs_then, runs_as}
 use Rattle.law_run.proofs.Still.{stopped_still, data_unfailing, transparent_unfailing, transparent_still}
 use Rattle.law_run.proofs.Still.{um_taking_unfailing, um_arriving_still, um_expiry_still, um_ticking_still}

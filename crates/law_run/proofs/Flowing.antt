@@ -34,6 +34,8 @@ use Rattle.law_run.specs.TwoEnds.Arrival.{renewals_in, told_by_step}
 use Rattle.promises.specs.Arrival.{entries_in, entries_ended}
 use Rattle.law_words.specs.Arrivals.{AccountEntry}
 use Rattle.law_run.specs.TwoEnds.Going.{TellAlone, sets, handed_in as handed_by, IsStepSince}
+use Rattle.law_run.specs.TwoEnds.Logs.{LogEntry, logged, LogAlone}
+use Rattle.law_run.proofs.TwoEnds.Going.{logged_more, logged_both}
 use Rattle.law_run.proofs.TwoEnds.Going.{last_in, tells_more}
 use Rattle.law_run.specs.TwoEnds.Staying.{is_handover_step}
 use Rattle.law_run.proofs.TwoEnds.Showing.{in_then}
@@ -154,6 +156,16 @@ unflown_end bits l from said done =
     none : (sent : List ℕ) → entries_in bits l from sent (records.Drained done ∷ []) ≡ []
     none sent = refl
 
+-- and in one order
+log_alone_both : (f g : List Record) → LogAlone f → LogAlone g → LogAlone (f ++ g)
+log_alone_both f g p q sent =
+    logged_more sent f g
+    ∙ (ap (λ (hs : List LogEntry). hs ++ logged (last_in f sent) g) (p sent)
+    ∙ (ap (λ (hs : List LogEntry). logged [] f ++ hs) (q (last_in f sent)) ∙ sym (logged_both f g q)))
+
+unlogged_end : (said : List Record) (done : ℕ) → logged [] (said ++ records.Drained done ∷ []) ≡ logged [] said
+unlogged_end said done = logged_more [] said (records.Drained done ∷ []) ∙ append-nil (logged [] said)
+
 unsaid_end : (d : Direction) (l : ℕ) (place : Cursor) (said : List Record) (done : ℕ)
     → told_in d l place (said ++ records.Drained done ∷ []) ≡ told_in d l place said
 unsaid_end d l place said done =
@@ -172,6 +184,7 @@ pub record StepLives (l : ℕ) (Live : List Record → Sdus → Happened → Boo
     pub more : List Record
     pub out_is : (step s k).out ≡ k.out ++ more
     pub alone : TellAlone l more
+    pub log_alone : LogAlone more
     pub lived : Live (told ++ more) (λ side n. handed side n ++ (handed_by side n s k ++ looped_at side n more))
         (λ bits from. flown bits from ++ told_by_step bits l from s more) (set || sets l s) (step s k)
 
@@ -193,6 +206,7 @@ module _ (l : ℕ) (Live : List Record → Sdus → Happened → Bool → Link �
     more : List Record
     out_is : m.out ≡ k.out ++ more
     alone : TellAlone l more
+    log_alone : LogAlone more
     lived : Live (told ++ more) (λ side n. handed side n ++ looped_at side n more)
         (λ bits from. flown bits from ++ entries_in bits l from [] more) set m
 
@@ -206,6 +220,7 @@ module _ (l : ℕ) (Live : List Record → Sdus → Happened → Bool → Link �
         more = x.more;
         out_is = x.out_is;
         alone = x.alone;
+        log_alone = x.log_alone;
         lived = through.same _ _ _ _ _ _ (set || sets l s) set (step s k) refl
             (λ side n. ap (λ (ys : List (List ℕ)). handed side n ++ (ys ++ looped_at side n x.more)) (none side n))
             (λ bits from. ap (λ (hs : List AccountEntry). flown bits from ++ (hs ++ entries_in bits l from [] x.more))
@@ -219,6 +234,7 @@ module _ (l : ℕ) (Live : List Record → Sdus → Happened → Bool → Link �
     more = [];
     out_is = out ∙ sym (append-nil k.out);
     alone = λ bits from sent. refl;
+    log_alone = λ sent. refl;
     lived = through.same told (told ++ []) handed _ flown _ set set m (sym (append-nil told))
         (λ side n. sym (no_more side n (handed side n))) (λ bits from. sym (append-nil (flown bits from))) refl h;
   }
@@ -231,6 +247,7 @@ module _ (l : ℕ) (Live : List Record → Sdus → Happened → Bool → Link �
     more = g.more ++ q.more;
     out_is = q.out_is ∙ ap (λ (x : List Record). x ++ q.more) g.out_is ∙ append_assoc k.out g.more q.more;
     alone = alone_both l g.more q.more g.alone q.alone;
+    log_alone = log_alone_both g.more q.more g.log_alone q.log_alone;
     lived = through.same _ (told ++ (g.more ++ q.more)) _ _ _ _ set set o (append_assoc told g.more q.more)
         (λ side n. both_looped side n (handed side n) g.more q.more)
         (λ bits from. both_flown l (flown bits from) g.more q.more q.alone bits from) refl q.lived;
@@ -267,6 +284,7 @@ module _ (l : ℕ) (Live : List Record → Sdus → Happened → Bool → Link �
   record DrainLives (told : List Record) (handed : Sdus) (flown : Happened) (set : Bool) (d : Drained) : Type 0 where
     nothing : d.link.out ≡ []
     alone : TellAlone l d.journal
+    log_alone : LogAlone d.journal
     lived : Live (told ++ d.journal) (λ side n. handed side n ++ looped_at side n d.journal)
         (λ bits from. flown bits from ++ entries_in bits l from [] d.journal) set d.link
 
@@ -275,18 +293,20 @@ module _ (l : ℕ) (Live : List Record → Sdus → Happened → Bool → Link �
   none_drained told handed flown set k nothing h = record {
     nothing = nothing;
     alone = λ bits from sent. refl;
+    log_alone = λ sent. refl;
     lived = through.same told (told ++ []) handed _ flown _ set set k (sym (append-nil told))
         (λ side n. sym (no_more side n (handed side n))) (λ bits from. sym (append-nil (flown bits from))) refl h;
   }
 
   first_drained : (told : List Record) (handed : Sdus) (flown : Happened) (set : Bool) (done : ℕ)
-      (first : List Record) (d : Drained) → TellAlone l first
+      (first : List Record) (d : Drained) → TellAlone l first → LogAlone first
       → DrainLives (told ++ first) (λ side n. handed side n ++ looped_at side n first)
       (λ bits from. flown bits from ++ entries_in bits l from [] first) set d
       → DrainLives told handed flown set (behind first done d)
-  first_drained told handed flown set done first d yet q = record {
+  first_drained told handed flown set done first d yet log q = record {
     nothing = q.nothing;
     alone = alone_both l first d.journal yet q.alone;
+    log_alone = log_alone_both first d.journal log q.log_alone;
     lived = through.same _ (told ++ (first ++ d.journal)) _ _ _ _ set set d.link (append_assoc told first d.journal)
         (λ side n. both_looped side n (handed side n) first d.journal)
         (λ bits from. both_flown l (flown bits from) first d.journal q.alone bits from) refl q.lived;
@@ -295,6 +315,7 @@ module _ (l : ℕ) (Live : List Record → Sdus → Happened → Bool → Link �
   -- where nothing was told before
   record First (told : List Record) (handed : Sdus) (flown : Happened) (set : Bool) (m : Link) : Type 0 where
     alone : TellAlone l m.out
+    log_alone : LogAlone m.out
     lived : Live (told ++ m.out) (λ side n. handed side n ++ looped_at side n m.out)
         (λ bits from. flown bits from ++ entries_in bits l from [] m.out) set m
 
@@ -304,6 +325,7 @@ module _ (l : ℕ) (Live : List Record → Sdus → Happened → Bool → Link �
       let same : m.out ≡ g.more = g.out_is ∙ ap (λ (x : List Record). x ++ g.more) nothing in
       record {
         alone = subst (TellAlone l) (sym same) g.alone;
+        log_alone = subst LogAlone (sym same) g.log_alone;
         lived = through.same _ _ _ _ _ _ set set m (ap (λ (x : List Record). told ++ x) (sym same))
             (λ side n. ap (λ (x : List Record). handed side n ++ looped_at side n x) (sym same))
             (λ bits from. ap (λ (x : List Record). flown bits from ++ entries_in bits l from [] x) (sym same)) refl
@@ -316,7 +338,7 @@ module _ (l : ℕ) (Live : List Record → Sdus → Happened → Bool → Link �
   ttis_go (suc n) grant told handed flown set k within nothing h =
       let m = drain_tti grant k in
       let x = at_first told handed flown set k m nothing (tti_goes told handed flown set grant k within h) in
-      first_drained told handed flown set 0 m.out (ttis n grant (shown m)) x.alone
+      first_drained told handed flown set 0 m.out (ttis n grant (shown m)) x.alone x.log_alone
       (ttis_go n grant (told ++ m.out) _ _ set (shown m) within refl
       (through.unseen (told ++ m.out) _ _ set m [] x.lived))
 
@@ -327,11 +349,11 @@ module _ (l : ℕ) (Live : List Record → Sdus → Happened → Bool → Link �
       → DrainLives told handed flown set
       (behind (round_told b grant k) (done_by b) (rounds n grant (left_by b grant k)))
   round_by n grant told handed flown set k within nothing h true rest = let q = rest told handed flown k nothing h in
-      record { nothing = q.nothing; alone = q.alone; lived = q.lived }
+      record { nothing = q.nothing; alone = q.alone; log_alone = q.log_alone; lived = q.lived }
   round_by n grant told handed flown set k within nothing h false rest =
       let m = round grant k in
       let x = at_first told handed flown set k m nothing (round_goes told handed flown set grant k within h) in
-      first_drained told handed flown set 1 m.out (rounds n grant (shown m)) x.alone
+      first_drained told handed flown set 1 m.out (rounds n grant (shown m)) x.alone x.log_alone
       (rest (told ++ m.out) _ _ (shown m) refl (through.unseen (told ++ m.out) _ _ set m [] x.lived))
 
   rounds_go : (n grant : ℕ) (told : List Record) (handed : Sdus) (flown : Happened) (set : Bool) (k : Link)
@@ -360,7 +382,7 @@ module _ (l : ℕ) (Live : List Record → Sdus → Happened → Bool → Link �
       record {
         said = whole.journal;
         lived =
-            (first_drained told handed flown set 0 d.journal e p.alone
+            (first_drained told handed flown set 0 d.journal e p.alone p.log_alone
             (rounds_go (budget k) grant (told ++ d.journal) _ _ set d.link within p.nothing p.lived)).lived;
         done = whole.done;
         journal_is = refl;
@@ -374,6 +396,7 @@ module _ (l : ℕ) (Live : List Record → Sdus → Happened → Bool → Link �
     pub lived : Live (told ++ more) (λ side n. handed side n ++ (handed_in side n p m.out ++ looped_at side n m.out))
         (λ bits from. flown bits from ++ (ends ++ entries_in bits l from [] m.out)) set m
     pub told_are : (side : Side) → events_of side m.out ≡ events_of side more
+    pub logged_are : logged [] m.out ≡ logged [] more
     pub haps_are : (d : Direction) (place : Cursor) → told_in d l place m.out ≡ told_in d l place more
 
   pub step_plays : (told : List Record) (handed : Sdus) (flown : Happened) (set : Bool) (s : Step) (k : Link)
@@ -395,6 +418,7 @@ module _ (l : ℕ) (Live : List Record → Sdus → Happened → Bool → Link �
             (sym same))
             refl x.lived;
         told_are = λ side. refl;
+        logged_are = refl;
         haps_are = λ d place. refl;
       }
 
@@ -422,6 +446,7 @@ module _ (l : ℕ) (Live : List Record → Sdus → Happened → Bool → Link �
         ∙ ap (λ (y : List Record). flown bits from ++ entries_in bits l from [] y) (sym nothing))
         (sym (or_false set)) h;
     told_are = λ side. ap (events_of side) nothing;
+    logged_are = ap (logged []) nothing;
     haps_are = λ d place. ap (told_in d l place) nothing;
   }
 
@@ -454,6 +479,7 @@ module _ (l : ℕ) (Live : List Record → Sdus → Happened → Bool → Link �
             (sym (ap (entries_in bits l from []) w.journal_is ∙ unflown_end bits l from w.said w.done)))
             (sym (or_false set)) (through.unseen _ _ _ set d.link d.journal w.lived);
         told_are = λ side. ap (events_of side) w.journal_is ∙ untold_end side w.said w.done;
+        logged_are = ap (logged []) w.journal_is ∙ unlogged_end w.said w.done;
         haps_are = λ d place. ap (told_in d l place) w.journal_is ∙ unsaid_end d l place w.said w.done;
       }
 

@@ -33,6 +33,7 @@ pub mod Meeting
 pub mod Early
 pub mod Quiet
 pub mod Still
+pub mod SenderLog
 pub mod KeptByCalls
 pub mod Failing
 pub mod Failed
@@ -54,6 +55,8 @@ pub mod Queueing
 pub mod Losses
 pub mod Silent
 pub mod OwnPdus
+pub mod EndLogs
+pub mod ChannelLogs
 pub mod WaitingSdus
 pub mod Numbered
 pub mod Numbering

@@ -84,6 +84,7 @@ module _ (l : ℕ) (nb ue : End) (bits : ℕ) (Um : Type 0) where
         more = x.more;
         out_is = x.out_is;
         alone = x.alone;
+        log_alone = x.log_alone;
         lived = record {
           by = x.by;
           kinds = λ um. x.stays bits (h.kinds um);
@@ -107,6 +108,7 @@ module _ (l : ℕ) (nb ue : End) (bits : ℕ) (Um : Type 0) where
           more = x.more;
           out_is = x.out_is;
           alone = x.alone;
+          log_alone = x.log_alone;
           lived = record {
             by = x.by;
             kinds = λ um. x.stays bits (h.kinds um);
@@ -202,7 +204,7 @@ module _ (l : ℕ) (nb ue : End) where
       → IsStepSince l s → is_handover_step s ≡ false → LivedIn l nb ue told handed flown set k
       → StepLives l InOneLife told handed flown set s k
   life_steps told handed flown set s k g own h = let x = steps_live_in l nb ue told handed flown set s k g own h in
-      record { more = x.more; out_is = x.out_is; alone = x.alone; lived = x.lived }
+      record { more = x.more; out_is = x.out_is; alone = x.alone; log_alone = x.log_alone; lived = x.lived }
 
   pub through_life : GoesThrough l InOneLife
   through_life = record {

@@ -1,17 +1,14 @@
 -- An acknowledged sender numbers its new PDUs one by one, within its window, and sends again what is in it.
-use Rattle.std.proofs.Common.{◌≡◌, ℕ, ◌+◌, ◌%◌, ◌<◌, ◌≤◌, Bool, true, false, ◌&&◌, if◌then◌else◌}
-use Rattle.std.proofs.Common.{nat_le, nat_lt, length, length-append, length-drop, Option, Some, None}
-use Rattle.std.proofs.Common.{List}
-use Rattle.std.proofs.Common.{[], ◌∷◌, ◌++◌, refl, ap, sym, subst, ◌∙◌, arith}
+use Rattle.std.proofs.Common.{◌≡◌, ℕ, ◌+◌, ◌%◌, ◌<◌, ◌≤◌, Bool, true, false, ◌&&◌, if◌then◌else◌, nat_le, nat_lt}
+use Rattle.std.proofs.Common.{length, length-append, length-drop, Option, Some, None, List, [], ◌∷◌, ◌++◌, refl, ap}
+use Rattle.std.proofs.Common.{sym, subst, ◌∙◌, arith}
 use Rattle.std.proofs.lemmas.Bool.Decides.{nat_tests}
 use Rattle.std.proofs.Math.ListN.{length-set}
 use Rattle.bearer.specs.declared.flow.Flow.TheVariants.{Am}
 use Rattle.bearer.specs.Acknowledged.State.{State}
-use Rattle.bearer.specs.Acknowledged.Taking.{data_told}
-use Rattle.bearer.specs.Acknowledged.Taking.{poll_told as start_told}
+use Rattle.bearer.specs.Acknowledged.Taking.{data_told, poll_told as start_told}
 use Rattle.bearer.specs.Acknowledged.Timing.{poll_told, told_of}
-use Rattle.law_bearer.specs.AnyBearer.Calls.{Call as BearerCall}
-use Rattle.law_bearer.specs.AnyBearer.Calls.{after_all}
+use Rattle.law_bearer.specs.AnyBearer.Calls.{Call as BearerCall, after_all}
 use Rattle.bearer_types.specs.declared.event.Event.{Event}
 use Rattle.bearer_types.specs.declared.event.Event.TheVariants as events
 use Rattle.law_deliver.specs.AmFlow.Ups.{tells_over}
@@ -24,18 +21,17 @@ use Rattle.rlc_am_tx.specs.declared.answers.PollExpired.TheVariants as polls
 use Rattle.rlc_am_tx.specs.declared.turn.Turn.{Turn}
 use Rattle.rlc_am_tx.specs.declared.turn.Turn.TheVariants as turns
 use Rattle.rlc_am_tx.specs.Machine.{State as Sender, turn, after_turn, with_poll, is_wanted, sent_whole, sent_segment}
-use Rattle.rlc_am_tx.specs.Machine.{answer_of, waits, is_empty, is_shut, is_held, again}
-use Rattle.rlc_am_tx.specs.Machine.{first_place, number_again, resend_turn, new_turn, sent_new}
-use Rattle.rlc_am_tx.specs.Machine.{read, read_window, is_ignored, limit_of, stops, ended}
-use Rattle.rlc_am_tx.specs.Machine.{applied, after_status, heard, recalled_place, with_recalled, with_owed}
+use Rattle.rlc_am_tx.specs.Machine.{answer_of, waits, is_empty, is_shut, is_held, again, first_place, number_again}
+use Rattle.rlc_am_tx.specs.Machine.{resend_turn, new_turn, sent_new, read, read_window, is_ignored, limit_of, stops}
+use Rattle.rlc_am_tx.specs.Machine.{ended, applied, after_status, heard, recalled_place, with_recalled, with_owed}
 use Rattle.rlc_am_tx.specs.Machine.{expiry_limit, expiry as poll_expiry, after_expiry as after_poll, expired}
 use Rattle.rlc_am_tx_window.specs.Sent.{Sent, all_wait, whole_size}
-use Rattle.rlc_am_tx_window.specs.Window.{TxWindow, next, with_slot, named_all, acked_from}
-use Rattle.rlc_am_tx_window.specs.Window.{leading_acked, advanced}
+use Rattle.rlc_am_tx_window.specs.Window.{TxWindow, next, with_slot, named_all, acked_from, leading_acked, advanced}
 use Rattle.rlc_pdu.specs.declared.constants.TheConstants.{AM_MODULUS, AM_WINDOW_SIZE}
 use Rattle.rlc_pdu.specs.declared.pdu.Nack.{Nack}
 use Rattle.rlc_pdu.specs.Pdus.{StatusPdu}
-use Rattle.law_run.proofs.KeptByCalls.{Seen, poll_seen, read_told, IsKept as IsKeptByCalls, Carries, calls_kept}
+use Rattle.law_run.specs.TwoEnds.SenderLog.{read_told}
+use Rattle.law_run.proofs.KeptByCalls.{Seen, poll_seen, IsKept as IsKeptByCalls, Carries, calls_kept}
 use Rattle.law_run.proofs.Numbered.{Fits, Writes, IsKept, kept_same, kept_then, writes_kept, writes_still, writes_then}
 use Rattle.law_run.proofs.Numbered.{still_numbered, still_over}
 use Rattle.law_run.proofs.Quiet.{tell_sender}

@@ -1,6 +1,7 @@
 -- What a bearer tells besides the data PDUs that it sends and its failure.
-use Rattle.std.proofs.Common.{◌≡◌, ℕ, Bool, true, false, if◌then◌else◌, Option, Some, None, Result, Ok, Err}
-use Rattle.std.proofs.Common.{List, [], ◌∷◌, length, unwrap_or, refl, ◌==◌, ◌-◌, ◌%◌}
+use Rattle.std.proofs.Common.{◌≡◌, ℕ, Bool, true, false, if◌then◌else◌, Option, Some, None, Result, Ok, Err, List, []}
+use Rattle.std.proofs.Common.{◌∷◌, length, unwrap_or, refl, ap, ◌∙◌, ◌||◌, ◌==◌, ◌-◌, ◌%◌}
+use Rattle.std.specs.List.{list_any}
 use Rattle.bearer.specs.Acknowledged.Hearing.{started_told, stopped_told}
 use Rattle.bearer.specs.Acknowledged.Taking.{status_told, prohibit_told, writes_status, poll_told, data_told}
 use Rattle.bearer.specs.Acknowledged.Timing.{timer_told, told_of}
@@ -51,12 +52,32 @@ use Rattle.rlc_pdu.specs.Reading.{umd_at}
 use Rattle.rlc_um.specs.Receiver.{landing, turning, arrival, expiring, expired}
 use Rattle.rlc_um.specs.Sender.{taken as rlc_taken, is_hungry}
 use Rattle.promises.specs.Silent.{is_failure, is_of_sender}
+use Rattle.law_run.specs.TwoEnds.SenderLog.{is_of_flow}
+use Rattle.prioritise.proofs.ChannelLemmas.{both_false}
 use Rattle.law_run.proofs.Quiet.{tell_failure, tell_sender, none_both, still_so}
 
+-- something of the flow of a sender is told
+abbrev pub tell_flow : List Event → Bool
+tell_flow told = list_any is_of_flow told
+
+sender_so : (e : Event) → is_of_flow e ≡ false → is_of_sender e ≡ false
+sender_so (events.Take lcid count len) h = refl
+sender_so (events.Report lcid fms bitmap) h = refl
+sender_so (events.Expired lcid Poll) h = refl
+sender_so e h = h
+
+-- then nothing of the sender
+pub flow_so : (told : List Event) → tell_flow told ≡ false → tell_sender told ≡ false
+flow_so [] h = refl
+flow_so (e ∷ told) h =
+    let parts = both_false (is_of_flow e) (tell_flow told) h in
+    ap (λ (b : Bool). b || tell_sender told) (sender_so e parts.0) ∙ flow_so told parts.1
+
 -- one event, or none
-one_if : (b : Bool) (e : Event) → tell_sender (e ∷ []) ≡ false → tell_sender (if b then e ∷ [] else []) ≡ false
-one_if true e h = h
-one_if false e h = refl
+one_if : (test : Event → Bool) (b : Bool) (e : Event) → list_any test (e ∷ []) ≡ false
+    → list_any test (if b then e ∷ [] else []) ≡ false
+one_if test true e h = h
+one_if test false e h = refl
 
 -- ---- PDCP
 
@@ -83,15 +104,15 @@ pub taking_still : (e : Ends) → tell_sender (taking_told e) ≡ false
 unfolding taking_told
 taking_still e = next_still e.lcid e.kind (pdcp_taking e.tx)
 
-ups_still : (lcid : ℕ) (sdus : List (List ℕ)) → tell_sender (ups lcid sdus) ≡ false
+ups_still : (lcid : ℕ) (sdus : List (List ℕ)) → tell_flow (ups lcid sdus) ≡ false
 ups_still lcid [] = refl
 ups_still lcid (sdu ∷ sdus) = ups_still lcid sdus
 
-unless : (b : Bool) (e : Event) → tell_sender (e ∷ []) ≡ false → tell_sender (if b then [] else e ∷ []) ≡ false
+unless : (b : Bool) (e : Event) → tell_flow (e ∷ []) ≡ false → tell_flow (if b then [] else e ∷ []) ≡ false
 unless true e h = refl
 unless false e h = h
 
-got_still : (g : Got) (cause : Cause) (e : Ends) → tell_sender (got_told g cause e) ≡ false
+got_still : (g : Got) (cause : Cause) (e : Ends) → tell_flow (got_told g cause e) ≡ false
 got_still got_as.Up cause e = ups_still e.lcid e.rx.ready
 got_still got_as.Stored cause e = ups_still e.lcid e.rx.ready
 got_still got_as.Old cause e = refl
@@ -100,61 +121,67 @@ got_still (got_as.Integrity found wanted) cause e = refl
 got_still (got_as.Report fms bitmap) cause e = unless (is_applied e cause fms) (events.Drop e.lcid lost.Report) refl
 got_still (got_as.Unreadable fault) cause e = refl
 
-pub heard_still : (pdu : List ℕ) (cause : Cause) (e : Ends) → tell_sender (heard_told pdu cause e) ≡ false
+pub heard_still : (pdu : List ℕ) (cause : Cause) (e : Ends) → tell_flow (heard_told pdu cause e) ≡ false
 unfolding heard_told
 heard_still pdu cause e = got_still (got e.rx pdu cause) cause (with_arrived pdu cause e)
 
-late_by : (b : Bool) (lcid len : ℕ) (told : List Event) → tell_sender told ≡ false
-    → tell_sender (if b then events.Discard lcid len ∷ told else []) ≡ false
+late_by : (b : Bool) (lcid len : ℕ) (told : List Event) → tell_flow told ≡ false
+    → tell_flow (if b then events.Discard lcid len ∷ told else []) ≡ false
 late_by true lcid len told h = h
 late_by false lcid len told h = refl
 
-late_still : (lcid : ℕ) (ws : _) (s : Sending) → tell_sender (late_told lcid ws s) ≡ false
+late_still : (lcid : ℕ) (ws : _) (s : Sending) → tell_flow (late_told lcid ws s) ≡ false
 late_still lcid [] s = refl
 late_still lcid (w ∷ ws) s = late_by (is_overdue s) lcid (length w.sdu) _ (late_still lcid ws (after_late s))
 
-pub tick_still : (e : Ends) → tell_sender (tick_told e) ≡ false
+pub tick_still : (e : Ends) → tell_flow (tick_told e) ≡ false
 unfolding tick_told
 tick_still e = late_still e.lcid e.tx.waiting (ticked e.tx)
 
 -- ---- RLC
 
-pub turned_still : (lcid : ℕ) (t : Turned) → tell_sender (turned_told lcid t) ≡ false
+pub turned_still : (lcid : ℕ) (t : Turned) → tell_flow (turned_told lcid t) ≡ false
 turned_still lcid t =
-    none_both is_of_sender (if t.stopped then events.Stop lcid Reorder ∷ [] else []) _
-    (one_if t.stopped (events.Stop lcid Reorder) refl) (one_if t.started (events.Start lcid Reorder) refl)
+    none_both is_of_flow (if t.stopped then events.Stop lcid Reorder ∷ [] else []) _
+    (one_if is_of_flow t.stopped (events.Stop lcid Reorder) refl)
+    (one_if is_of_flow t.started (events.Start lcid Reorder) refl)
 
-pub landed_still : (lcid : ℕ) (l : Landed) (t : Turned) → tell_sender (landed_told lcid l t) ≡ false
+pub landed_still : (lcid : ℕ) (l : Landed) (t : Turned) → tell_flow (landed_told lcid l t) ≡ false
 landed_still lcid lands.Kept t = turned_still lcid t
 landed_still lcid lands.Repeat t = refl
 landed_still lcid lands.Outside t = refl
 landed_still lcid lands.Clash t = refl
 
-pub expired_still : (lcid : ℕ) (clock : Clock) (again : Bool) → tell_sender (expired_told lcid clock again) ≡ false
-expired_still lcid clock again = one_if again (events.Start lcid clock) refl
+-- but for the poll timer
+pub expired_still : (lcid : ℕ) (clock : Clock) (again : Bool) → (clock ≡ Poll → ⊥)
+    → tell_flow (expired_told lcid clock again) ≡ false
+expired_still lcid Poll again other = absurd (other refl)
+expired_still lcid Reorder again other = one_if is_of_flow again (events.Start lcid Reorder) refl
+expired_still lcid Prohibit again other = one_if is_of_flow again (events.Start lcid Prohibit) refl
 
-pub timer_still : (lcid : ℕ) (clock : Clock) (x : Expired) → tell_sender (told_of (timer_told lcid clock x)) ≡ false
-timer_still lcid clock NotRunning = refl
-timer_still lcid clock (Done again) = expired_still lcid clock again
+pub timer_still : (lcid : ℕ) (clock : Clock) (x : Expired) → (clock ≡ Poll → ⊥)
+    → tell_flow (told_of (timer_told lcid clock x)) ≡ false
+timer_still lcid clock NotRunning other = refl
+timer_still lcid clock (Done again) other = expired_still lcid clock again other
 
 -- ---- an acknowledged bearer
 
 pub status_still : (lcid : ℕ) (has : Bool) (r : Receiver) (share : ℕ)
-    → tell_sender (status_told lcid has r share) ≡ false
+    → tell_flow (status_told lcid has r share) ≡ false
 status_still lcid has r share = by_writing (writes_status r share) has
   where
     by_writing : (b has : Bool)
-        → tell_sender
+        → tell_flow
         (if b then events.Send lcid hows.Status (ack r (share - 3) % 1024) ∷ prohibit_told lcid has else []) ≡ false
     by_writing true true = refl
     by_writing true false = refl
     by_writing false has = refl
 
 pub started_still : (lcid : ℕ) (b : Bool) → tell_sender (started_told lcid b) ≡ false
-started_still lcid b = one_if b (events.Start lcid Poll) refl
+started_still lcid b = one_if is_of_sender b (events.Start lcid Poll) refl
 
 pub stopped_still : (lcid : ℕ) (b : Bool) → tell_sender (stopped_told lcid b) ≡ false
-stopped_still lcid b = one_if b (events.Stop lcid Poll) refl
+stopped_still lcid b = one_if is_of_sender b (events.Stop lcid Poll) refl
 
 poll_unfailing : (lcid : ℕ) (b : Bool) → tell_failure (poll_told lcid b) ≡ false
 poll_unfailing lcid true = refl
@@ -228,13 +255,15 @@ hears_still : (sdus : List (List ℕ)) (cause : Cause) (h : Hearing) → tell_se
 hears_still [] cause h none = none
 hears_still (sdu ∷ sdus) cause h none =
     hears_still sdus cause (hears sdu cause h)
-    (none_both is_of_sender h.events (heard_told sdu cause h.pdcp) none (heard_still sdu cause h.pdcp))
+    (none_both is_of_sender h.events (heard_told sdu cause h.pdcp) none
+    (flow_so (heard_told sdu cause h.pdcp) (heard_still sdu cause h.pdcp)))
 
 um_arrived_still : (r : Result UmdPdu RlcRefusal) (s : UmState) → tell_sender (um_arrived r s) ≡ false
 um_arrived_still (Err fault) s = refl
 um_arrived_still (Ok pdu) s =
     hears_still (arrival pdu s.rx).joined.ready Arrived _
-    (landed_still s.pdcp.lcid (landing pdu s.rx) (turning pdu s.rx))
+    (flow_so (landed_told s.pdcp.lcid (landing pdu s.rx) (turning pdu s.rx))
+    (landed_still s.pdcp.lcid (landing pdu s.rx) (turning pdu s.rx)))
 
 pub um_arriving_still : (s : UmState) (pdu : List ℕ) → tell_sender (arriving s pdu) ≡ false
 unfolding arriving
@@ -243,7 +272,9 @@ um_arriving_still s pdu = um_arrived_still (umd_at s.bits pdu) s
 um_expired_still : (x : Expired) (s : UmState) → tell_sender (um_told_of (expiry_told x s)) ≡ false
 um_expired_still NotRunning s = refl
 um_expired_still (Done again) s =
-    hears_still (expired s.rx).joined.ready Arrived _ (expired_still s.pdcp.lcid Reorder again)
+    hears_still (expired s.rx).joined.ready Arrived _
+    (flow_so (expired_told s.pdcp.lcid Reorder again)
+    (expired_still s.pdcp.lcid Reorder again (λ e. let other : Reorder ≡ Poll = e in absurd cc)))
 
 um_clock_still : (s : UmState) (clock : Clock) → tell_sender (um_told_of (expiry s clock)) ≡ false
 unfolding expiry
@@ -267,4 +298,5 @@ unfolding ticking
 um_ticking_still s =
     none_both is_of_sender (timed_told (ends s.rx.clock) (counted_down s)) _
     (timed_still (ends s.rx.clock) (counted_down s))
-    (tick_still (timed_left (ends s.rx.clock) (counted_down s)).pdcp)
+    (flow_so (tick_told (timed_left (ends s.rx.clock) (counted_down s)).pdcp)
+    (tick_still (timed_left (ends s.rx.clock) (counted_down s)).pdcp))

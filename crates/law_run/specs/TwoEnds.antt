@@ -1,6 +1,9 @@
 pub mod Shown
 pub mod On
 pub mod Arrival
+pub mod Logs
+pub mod SenderLog
+pub mod ChannelLog
 pub mod Going
 pub mod Staying
 pub mod Lives

@@ -2,8 +2,10 @@
 //! the other end built, through lives of their acknowledged bearers. A law is the contract of a
 //! function that does nothing.
 
+ghost use Rattle.law_run.specs.TwoEnds.ChannelLog.{EndsLogOnChannels, SidesLogTheirCalls};
 ghost use Rattle.law_run.specs.TwoEnds.Coming.{BearersComeByAir, StepsComeByAir, EndsComeByAir};
 ghost use Rattle.law_run.specs.TwoEnds.Going.{StepsGoByAir};
+ghost use Rattle.law_run.specs.TwoEnds.SenderLog.{CallsGoAlong, EndsGoAlong, EndsGoAlongOver};
 ghost use Rattle.law_run.specs.TwoEnds.Staying.{StepsStay, HandoversMove};
 ghost use Rattle.law_run.specs.TwoEnds.Lives.{FirstIsAtRest, CallsRest, SubmissionsRest};
 ghost use Rattle.law_run.specs.TwoEnds.Lives.{ChannelsBegin};
@@ -79,4 +81,24 @@ pub fn links_are_ordered()
 pub fn lines_are_of_lives()
     ensures steps { StepsStay }
     ensures handovers { HandoversMove }
+{}
+
+/// What an acknowledged bearer tells and writes in a call, behind a PDU that comes to it, is logged
+/// along calls of RLC's sender by which it comes to its state: each SDU that is taken from PDCP,
+/// the data PDU with its octets, a STATUS that is read and what is told of it, and the expiry of
+/// its timer, in this order; nothing else tells of these. So in each call of an end in a life, and
+/// in any of them, on each channel with such a bearer.
+pub fn calls_go_along()
+    ensures bearers { CallsGoAlong }
+    ensures ends { EndsGoAlong }
+    ensures over { EndsGoAlongOver }
+{}
+
+/// And what the end logs of the channel in the call is what its bearer logs: first the PDUs of the
+/// channel in a block that comes, then what is told on the channel, and then the PDUs of the
+/// channel in a new block. Of what both ends log in one order in any steps, a side logs on the
+/// channel what it logs in its own calls.
+pub fn ends_log_on_channels()
+    ensures calls { EndsLogOnChannels }
+    ensures steps { SidesLogTheirCalls }
 {}

@@ -146,13 +146,13 @@ none_behind side l a hs e h = subst (λ (xs : List AccountEntry). OwnTo side l a
 
 -- ---- a call
 
-in_life_stands : (side : Side) (l : ℕ) (e : End) (c : Call) → Stands side l e → IsGivenCall c → GoesOnInLife l c
+pub in_life_stands : (side : Side) (l : ℕ) (e : End) (c : Call) → Stands side l e → IsGivenCall c → GoesOnInLife l c
     → Stands side l (after e c)
 in_life_stands side l e c s g life =
     stands_more side l e c s g (λ q. let no : true ≡ false = sym q ∙ life.adds_none in absurd cc)
 
-reaches : (side : Side) (l : ℕ) (e : End) (c : Call) (b : State) → Stands side l e → GoesOnInLife l c → flow l e ≡ Am b
-    → flow l (after e c) ≡ after_all (Am b) (calls_of l e c)
+pub reaches : (side : Side) (l : ℕ) (e : End) (c : Call) (b : State) → Stands side l e → GoesOnInLife l c
+    → flow l e ≡ Am b → flow l (after e c) ≡ after_all (Am b) (calls_of l e c)
 reaches side l e c b s life is =
     call_by l e c (come_sound side e s.come) life s.there ∙ ap (λ (f : Flow). after_all f (calls_of l e c)) is
 
@@ -181,7 +181,7 @@ hears_all side l fields (b ∷ bs) e h =
     hears_all side l fields bs (after e (Receive b)) (hears_at side l fields e b h)
 
 -- what is known of its bearer
-well_at : (side : Side) (l : ℕ) (e : End) (b : State) → Stands side l e → flow l e ≡ Am b
+pub well_at : (side : Side) (l : ℕ) (e : End) (b : State) → Stands side l e → flow l e ≡ Am b
     → (lcid : ℕ) × WritesWell lcid (Am b)
 well_at side l e b s is =
     let h = s.come in

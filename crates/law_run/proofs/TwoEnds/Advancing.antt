@@ -104,10 +104,12 @@ goes_behind l t c s k a ends firsts fits at r same = record {
     alone =
         λ bits from sent. same_behind c _ _ (sym (r.goes.reads bits from sent (fits sent))
         ∙ r.goes.reads bits from [] (fits []));
+    log_alone = λ sent. sym (r.goes.logs sent (fits sent)) ∙ r.goes.logs [] (fits []);
     by = record {
       steps = r.goes.steps;
       living = r.goes.living;
       told_is = r.goes.told_is;
+      logged_is = r.goes.logs [] (fits []);
       submitted_is = r.goes.submitted_is;
       happened_is = λ bits from. r.goes.reads bits from [] (fits [])
           ∙ ap (λ (hs : List AccountEntry). hs ++ entries_in bits l from [] r.more) ends;
@@ -272,7 +274,8 @@ emptied_by : (l : ℕ) (set : Marks) (side : Side) (maximum : ℕ) (b : Air) →
 emptied_by l set side maximum b some =
     goes_plain l set side [] none (SetVisits maximum) b tt some
     (record { adds_none = refl; moves_none = refl; unset = λ off. refl })
-    (says_so side [] none (station side b).end (SetVisits maximum) tt refl none_flown refl refl (λ i. refl) (λ i. refl))
+    (says_so side [] none (station side b).end (SetVisits maximum) tt refl none_flown refl refl (λ i. refl) (λ i. refl)
+    (λ sent. refl))
 
 emptied_goes : (l : ℕ) (set : Marks) (side : Side) (maximum : ℕ) (a : Air) → 1 ≤ maximum
     → Goes l set [] (λ at n. looped_at at n []) (call_whats side l (station side a).end (SetVisits maximum)) a
@@ -424,6 +427,7 @@ handovers_move l keys k a h =
         steps = r.goes.steps;
         living = r.goes.living;
         told_is = r.goes.told_is;
+        logged_is = r.goes.logs [] tt;
         submitted_is = r.goes.submitted_is;
         happened_is = λ bits from. r.goes.reads bits from [] tt;
         sets_none = r.goes.sets_none;

@@ -20,6 +20,7 @@ use Rattle.law_node.specs.Telling.{told_of}
 use Rattle.law_node.proofs.Looping.{tells_no_loop}
 use Rattle.promises.specs.Records.{events_of}
 use Rattle.law_words.specs.Arrivals.{AccountEntry}
+use Rattle.promises.specs.Events.{TellNoLoop}
 use Rattle.promises.specs.Given.{entries_come}
 use Rattle.promises.specs.Pdus.{carried}
 use Rattle.law_deliver.proofs.AmFlow.Stations.{come_side}
@@ -35,6 +36,7 @@ use Rattle.um_losses.specs.Told.{told_in, place_behind}
 use Rattle.law_deliver.specs.UmGaps.Whats.{expiries}
 use Rattle.promises.specs.Flows.{loops_in, looped_at}
 use Rattle.law_run.specs.TwoEnds.Shown.{IsShown}
+use Rattle.law_run.specs.TwoEnds.Logs.{LogEntry, Hears, all_tell, log_in, logged}
 use Rattle.law_run.specs.TwoEnds.On.{until, IsStation}
 use Rattle.promises.specs.Arrival.{entries_in}
 use Rattle.law_run.proofs.TwoEnds.Showing.{Shows, got_own, got_hidden}
@@ -48,7 +50,7 @@ use Rattle.law_run.proofs.TwoEnds.Steps.{goes_call, goes_come, goes_off}
 use Rattle.law_run.proofs.TwoEnds.Stations.{Moment, Waits, Done, stays_by, left_by, lasts, turned_station, is_visiting}
 use Rattle.law_run.proofs.TwoEnds.Stages.{Both, Reaches, Stands, events_unlooped, unlooped_by, StageBehind, Stage}
 use Rattle.law_run.proofs.TwoEnds.Stages.{unlooped_goes}
-use Rattle.law_run.proofs.TwoEnds.Stages.{quiet_events, stands_on}
+use Rattle.law_run.proofs.TwoEnds.Stages.{quiet_events, own_logged, stands_on}
 
 -- ---- a block comes that is under way
 
@@ -95,6 +97,12 @@ other_air bits l Ue sent heard es quiet =
     ap (λ (hs : List AccountEntry). entries_come (carried l directions.Down sent) ++ hs) (quiet bits l Nb sent)
     ∙ append-nil (entries_come (carried l directions.Down sent))
 
+-- in one order the block, and what is told of it
+heard_logged : (side : Side) (sent : List ℕ) (heard : Option Bool) (es : List Event) → TellNoLoop es
+    → logged sent (heard_as side heard es) ≡ Hears side sent ∷ all_tell side es
+heard_logged Nb sent heard es q = ap (λ (hs : List LogEntry). Hears Nb sent ∷ hs) (own_logged Nb es q sent)
+heard_logged Ue sent heard es q = ap (λ (hs : List LogEntry). Hears Ue sent ∷ hs) (own_logged Ue es q sent)
+
 -- a block that was sent last is got, and comes to a side
 heard_stage : (l : ℕ) (set : Marks) (octets : List ℕ) (v : ℕ) (heard : Option Bool) (side : Side) (R S : Station
     → Type 0) (k m : Link) (d : End) (a : Air) → Flown octets v (station (other side) a) → (station side a).end ≡ d
@@ -118,6 +126,9 @@ heard_stage l set octets v heard side R S k m d a f end_is come out kinds both =
       far = λ bits sent fits. other_air bits l side sent heard es quiet
           ∙ ap (λ (o : List ℕ). entries_come (carried l (heard_by side) o)) (fits ∙ sym f.octets_are)
           ∙ sym (heard_from l side e f.block.octets come);
+      log = λ sent fits. heard_logged side sent heard es (tells_no_loop d (Receive octets))
+          ∙ (ap (λ (o : List ℕ). Hears side o ∷ all_tell side es) (fits ∙ sym f.octets_are)
+          ∙ ap (λ (xs : List Event). Hears side f.block.octets ∷ all_tell side xs) es_are);
     } in
     record {
       air = b;
@@ -209,6 +220,7 @@ pub record Visited (l : ℕ) (side : Side) (t : Turn) (told : List Record) (k m 
   pub says : (bits l : ℕ) (sent : List ℕ) → HasCome side (end_of side k)
       → said_in bits l (end_of side k) (Visits t) ≡ entries_in bits l side sent told
   pub hears : (bits l : ℕ) (sent : List ℕ) → [] ≡ entries_in bits l (other side) sent told
+  pub logs : (sent : List ℕ) → HasCome side (end_of side k) → log_in side (end_of side k) (Visits t) ≡ logged sent told
   pub kinds_are : m.kinds ≡ k.kinds
   pub shown : HasCome side (end_of side k) → Shows l k.kinds told (call_whats side l (end_of side k) (Visits t))
 
@@ -226,6 +238,7 @@ visit_by l set side t told k m b calling end_is come x =
       other_submitted = λ n. refl;
       says = λ bits j sent. ap (λ (e : End). said_in bits j e (Visits t)) end_is ∙ x.says bits j sent come;
       hears = λ bits j sent. x.hears bits j sent;
+      logs = λ sent. ap (λ (e : End). log_in side e (Visits t)) end_is ∙ x.logs sent come;
     })
 
 visit_goes : (l : ℕ) (set : Marks) (side : Side) (t : Turn) (told : List Record) (k m : Link) (a : Air)

@@ -25,7 +25,9 @@ use Rattle.promises.specs.Records.{events_of}
 use Rattle.law_run.specs.TwoEnds.Lives.{IsAtRest}
 use Rattle.law_run.specs.TwoEnds.On.{until, IsStation, IsOn}
 use Rattle.law_run.proofs.TwoEnds.Advancing.{steps_go}
-use Rattle.law_run.proofs.TwoEnds.Going.{moving, Unread, Whats, GoesBehind, behind_then, happens_then}
+use Rattle.law_run.specs.TwoEnds.Logs.{LogEntry, log_of, logged}
+use Rattle.law_run.proofs.TwoEnds.Going.{moving, Unread, Whats, GoesBehind, behind_then, happens_then, logs_then}
+use Rattle.law_run.proofs.TwoEnds.Going.{logged_both}
 use Rattle.law_run.proofs.TwoEnds.Lives.{calls_rest}
 
 -- ---- what else is of a link
@@ -48,6 +50,7 @@ ends_come_by l told submitted said set k m a nb_is ue_is ttis_is x = record {
   steps = x.steps;
   living = x.living;
   told_is = x.told_is;
+  logged_is = x.logged_is;
   submitted_is = x.submitted_is;
   happened_is = x.happened_is;
   sets_none = x.sets_none;
@@ -70,6 +73,7 @@ come_as l a f g x y s t b c k told same air on h = record {
   steps = h.steps;
   living = h.living;
   told_is = λ side. ap (events_of side) (sym told) ∙ h.told_is side;
+  logged_is = h.logged_is ∙ ap (logged []) told;
   submitted_is = λ side n. h.submitted_is side n ∙ same side n;
   happened_is = λ bits from. h.happened_is bits from ∙ air bits from;
   sets_none = λ off. h.sets_none (on ∙ off);
@@ -83,6 +87,7 @@ come_by_none l k a on = record {
   steps = [];
   living = tt;
   told_is = λ side. refl;
+  logged_is = refl;
   submitted_is = λ side n. refl;
   happened_is = λ bits from. refl;
   sets_none = λ off side. tt;
@@ -125,19 +130,21 @@ by_goes l told submitted said set whole m a x off =
       sets_none = λ e. x.sets_none (off e);
       stays = λ e. absurd cc;
       reads = λ bits from sent fits. absurd fits;
+      logs = λ sent fits. absurd fits;
       whats_are = λ bits from. refl;
       air_is = refl;
     }
 
 abbrev goes_by : (l : ℕ) (told : List Record) (submitted : Side → ℕ → List (List ℕ)) (said : ℕ → Side
     → List AccountEntry) (set : Bool) (m : Link) {ws : Whats} (a b : Air) (x : Goes l set told submitted ws a b)
-    → ((bits : ℕ) (from : Side) → happened bits l from x.steps a ≡ said bits from) → IsOn m b
-    → GoesByAir l told submitted said set m a
-goes_by l told submitted said set m {ws} a b x happened on =
+    → ((bits : ℕ) (from : Side) → happened bits l from x.steps a ≡ said bits from)
+    → log_of x.steps a ≡ logged [] told → IsOn m b → GoesByAir l told submitted said set m a
+goes_by l told submitted said set m {ws} a b x happened logs on =
     record {
       steps = x.steps;
       living = x.living;
       told_is = x.told_is;
+      logged_is = logs;
       submitted_is = x.submitted_is;
       happened_is = happened;
       sets_none = x.sets_none;
@@ -168,12 +175,19 @@ steps_come l told submitted said set s k a g h =
     (λ sent fits. absurd fits) before behind
     ∙ (ap (λ (hs : List AccountEntry). hs ++ happened bits l from y.steps b) (h.happened_is bits from)
     ∙ ap (λ (hs : List AccountEntry). said bits from ++ hs) (y.happened_is bits from)) in
+    let logs : log_of whole.steps a ≡ logged [] (told ++ x.more) =
+    logs_then l (moving sets_any) Unread Unread told x.more submitted more a b c refl (λ sent fits. absurd fits) before
+    behind
+    ∙ (ap (λ (hs : List LogEntry). hs ++ log_of y.steps b) h.logged_is
+    ∙ (ap (λ (hs : List LogEntry). logged [] told ++ hs) y.logged_is
+    ∙ sym (logged_both told x.more x.log_alone))) in
     record {
       more = x.more;
       out_is = x.out_is;
       alone = x.alone;
+      log_alone = x.log_alone;
       by = goes_by l (told ++ x.more) (λ side n. submitted side n ++ more side n)
-          (λ bits from. said bits from ++ tells bits from) sets_any m a c whole happens y.on;
+          (λ bits from. said bits from ++ tells bits from) sets_any m a c whole happens logs y.on;
       stays = x.stays;
       shown = λ bits s' from p. whole.whats_are bits from
           ∙ ap (λ (ws : List Happening). whats from l bits h.steps a ++ ws) (x.shown bits s' from p);

@@ -23,6 +23,7 @@ use Rattle.um_losses.specs.declared.cursor.Cursor.{Cursor}
 use Rattle.um_losses.specs.declared.flow.Happening.{Happening}
 use Rattle.um_losses.specs.declared.flow.Happening.TheVariants.{LifeRestarted}
 use Rattle.law_deliver.specs.UmGaps.Whats.{whats_in, whats}
+use Rattle.law_run.specs.TwoEnds.Logs.{LogEntry, log_at, log_of, logged_at, logged, LogAlone}
 use Rattle.law_run.specs.TwoEnds.Staying.{AreInLife}
 
 -- ---- the end of a side
@@ -175,6 +176,7 @@ pub record GoesBehind (l : ℕ) (set : Marks) (c : Behind) (told : List Record) 
   pub sets_none : set.sets ≡ false → (side : Side) → Unset l steps a side
   pub stays : set.moves ≡ false → AreInLife steps
   pub reads : Reads l c told steps a
+  pub logs : (sent : List ℕ) → Fits c sent → log_of steps a ≡ logged sent told
   pub whats_are : (bits : ℕ) (from : Side) → whats from l bits steps a ≡ ws bits from
   pub air_is : lives steps a ≡ b
 
@@ -209,6 +211,20 @@ tells_more bits l from sent (one ∷ f) g =
     (tells_more bits l from (sent_last one sent) f g)
     ∙ sym (append_assoc (entries_at bits l from sent one) (entries_in bits l from (sent_last one sent) f)
     (entries_in bits l from (last_in f (sent_last one sent)) g))
+
+pub log_more : (xs ys : List AirStep) (a : Air) → log_of (xs ++ ys) a ≡ log_of xs a ++ log_of ys (lives xs a)
+log_more [] ys a = refl
+log_more (x ∷ xs) ys a =
+    ap (λ (hs : List LogEntry). log_at a x ++ hs) (log_more xs ys (lives_on a x))
+    ∙ sym (append_assoc (log_at a x) (log_of xs (lives_on a x)) (log_of ys (lives xs (lives_on a x))))
+
+pub logged_more : (sent : List ℕ) (f g : List Record)
+    → logged sent (f ++ g) ≡ logged sent f ++ logged (last_in f sent) g
+logged_more sent [] g = refl
+logged_more sent (one ∷ f) g =
+    ap (λ (hs : List LogEntry). logged_at sent one ++ hs) (logged_more (sent_last one sent) f g)
+    ∙ sym (append_assoc (logged_at sent one) (logged (sent_last one sent) f)
+    (logged (last_in f (sent_last one sent)) g))
 
 pub behind_then : (l : ℕ) (set : Marks) (c d : Behind) (f g : List Record) (x y : Side → ℕ
     → List (List ℕ)) {v w : Whats} (a b e : Air) → ended d ≡ []
@@ -252,6 +268,12 @@ behind_then l set c d f g x y {v} {w} a b e none left p q =
           ∙ (ap (λ (hs : List AccountEntry). (ended c ++ one) ++ hs) second
           ∙ (append_assoc (ended c) one two
           ∙ ap (λ (hs : List AccountEntry). ended c ++ hs) (sym (tells_more bits l from sent f g)))));
+      logs = λ sent fits.
+          let second : log_of ts z ≡ logged (last_in f sent) g =
+          ap (λ (w : Air). log_of ts w) p.air_is ∙ q.logs (last_in f sent) (left sent fits) in
+          log_more ss ts a
+          ∙ (ap (λ (hs : List LogEntry). hs ++ log_of ts z) (p.logs sent fits)
+          ∙ (ap (λ (hs : List LogEntry). logged sent f ++ hs) second ∙ sym (logged_more sent f g)));
       whats_are = λ bits from.
           let second = ap (λ (u : Air). whats from l bits ts u) p.air_is ∙ q.whats_are bits from in
           whats_more l bits from a ss ts
@@ -272,6 +294,18 @@ happens_then bits from l set c d f g x y {v} {w} a b e none left p q =
     happened_more bits l from p.steps q.steps a
     ∙ ap (λ (z : Air). happened bits l from p.steps a ++ happened bits l from q.steps z) p.air_is
 
+pub logs_then : (l : ℕ) (set : Marks) (c d : Behind) (f g : List Record) (x y : Side → ℕ
+    → List (List ℕ)) {v w : Whats} (a b e : Air) (none : ended d ≡ []) (left : (sent : List ℕ) → Fits c sent
+    → Fits d (last_in f sent))
+    (p : GoesBehind l set c f x v a b) (q : GoesBehind l set d g y w b e)
+    → log_of (behind_then l set c d f g x y a b e none left p q).steps a ≡ log_of p.steps a ++ log_of q.steps b
+unfolding behind_then
+logs_then l set c d f g x y {v} {w} a b e none left p q =
+    log_more p.steps q.steps a ∙ ap (λ (z : Air). log_of p.steps a ++ log_of q.steps z) p.air_is
+
+pub logged_both : (f g : List Record) → LogAlone g → logged [] (f ++ g) ≡ logged [] f ++ logged [] g
+logged_both f g h = logged_more [] f g ∙ ap (λ (hs : List LogEntry). logged [] f ++ hs) (h (last_in f []))
+
 pub goes_then : (l : ℕ) (set : Marks) (f g : List Record) (x y : Side → ℕ → List (List ℕ)) {v w : Whats} (a b c : Air)
     → Goes l set f x v a b → Goes l set g y w b c
     → Goes l set (f ++ g) (λ side n. x side n ++ y side n) (λ bits from. v bits from ++ w bits from) a c
@@ -290,6 +324,7 @@ weaken l set c told given {ws} a b open' p = record {
   stays = p.stays;
   reads = λ bits from sent fits. p.reads bits from sent tt
       ∙ sym (ap (λ (hs : List AccountEntry). hs ++ entries_in bits l from sent told) open');
+  logs = λ sent fits. p.logs sent tt;
   whats_are = p.whats_are;
   air_is = p.air_is;
 }
@@ -307,6 +342,7 @@ goes_as {c} l set told x y {ws} a b same p =
       sets_none = p.sets_none;
       stays = p.stays;
       reads = p.reads;
+      logs = p.logs;
       whats_are = p.whats_are;
       air_is = p.air_is;
     }
@@ -320,8 +356,9 @@ TellNoAir told = (bits l : ℕ) (from : Side) (sent : List ℕ) → entries_in b
 
 -- records that tell nothing of an end
 pub goes_none : (l : ℕ) (set : Marks) (c : Behind) (told : List Record) (a : Air) → ended c ≡ []
-    → ((side : Side) → events_of side told ≡ []) → TellNoAir told → GoesBehind l set c told none no_whats a a
-goes_none l set c told a open' untold unflown = record {
+    → ((side : Side) → events_of side told ≡ []) → TellNoAir told → ((sent : List ℕ) → logged sent told ≡ [])
+    → GoesBehind l set c told none no_whats a a
+goes_none l set c told a open' untold unflown unlogged = record {
   steps = [];
   living = tt;
   told_is = untold;
@@ -331,6 +368,7 @@ goes_none l set c told a open' untold unflown = record {
   reads =
       λ bits from sent fits. sym (ap (λ (hs : List AccountEntry). hs ++ entries_in bits l from sent told) open'
       ∙ unflown bits l from sent);
+  logs = λ sent fits. sym (unlogged sent);
   whats_are = λ bits from. refl;
   air_is = refl;
 }

@@ -53,7 +53,7 @@ use Rattle.promises.specs.Given.{entries_given}
 use Rattle.law_run.proofs.TwoEnds.Stages.{says_so, none_flown, none_if as hushed, unwritten, quiet_events, Stands}
 use Rattle.law_run.proofs.TwoEnds.Stages.{Hands, hands_none, Rests, rests_then, events_unlooped, says_stage, says_rests}
 use Rattle.law_run.proofs.TwoEnds.Stages.{still_rests, IsPlain, says_nothing, shows_nothing, shows_events, called_nb}
-use Rattle.law_run.proofs.TwoEnds.Stages.{called_ue, called_rests}
+use Rattle.law_run.proofs.TwoEnds.Stages.{called_ue, called_rests, plain_log, own_logged}
 use Rattle.law_run.proofs.TwoEnds.Stations.{Moment}
 
 -- ---- an end's call
@@ -101,7 +101,8 @@ tells_rests l set Nb c k plain g life keeps unsaid quiet =
     let same = told_seen Nb es (with_end Nb (after_call k.nb c) k) in
     let x : Says Nb told (λ s n. looped_at s n told) k.nb c =
     says_so Nb told (λ s n. looped_at s n told) k.nb c plain life.moves_none (quiet_events Nb es quiet)
-    (own_told Nb es (tells_no_loop k.nb c)) (other_told Nb es) unsaid (λ n. sym (events_unlooped n Nb es)) in
+    (own_told Nb es (tells_no_loop k.nb c)) (other_told Nb es) unsaid (λ n. sym (events_unlooped n Nb es))
+    (λ sent. plain_log Nb k.nb c plain ∙ sym (own_logged Nb es (tells_no_loop k.nb c) sent)) in
     called_rests l set Nb c told none k (tells_all Nb es (with_end Nb (after_call k.nb c) k)) life
     (record {
       plain = plain;
@@ -121,7 +122,7 @@ tells_rests l set Ue c k plain g life keeps unsaid quiet =
     let x : Says Ue told (λ s n. looped_at s n told) k.ue c =
     says_so Ue told (λ s n. looped_at s n told) k.ue c plain life.moves_none (quiet_events Ue es quiet)
     (own_told Ue es (tells_no_loop k.ue c)) (other_told Ue es) (λ n. unsaid n ∙ sym (events_unlooped n Ue es))
-    (λ n. refl) in
+    (λ n. refl) (λ sent. plain_log Ue k.ue c plain ∙ sym (own_logged Ue es (tells_no_loop k.ue c) sent)) in
     called_rests l set Ue c told none k (tells_all Ue es (with_end Ue (after_call k.ue c) k)) life
     (record {
       plain = plain;
@@ -186,7 +187,7 @@ module _ (l : ℕ) (set : Marks) where
       let told = records.Looped lcid octets ∷ [] in
       let x : Says Ue told (λ s n. looped_at s n told) k.ue (Submit lcid octets) =
       says_so Ue told (λ s n. looped_at s n told) k.ue (Submit lcid octets) tt refl (λ bits m from sent. refl) refl
-      refl (λ n. loop_says (lcid == n) (refusal lcid octets k.ue) lcid octets e) (λ n. refl) in
+      refl (λ n. loop_says (lcid == n) (refusal lcid octets k.ue) lcid octets e) (λ n. refl) (λ sent. refl) in
       called_rests l set Ue (Submit lcid octets) told none k (returns_by None lcid octets k)
       (record { adds_none = refl; moves_none = refl; unset = λ off. refl })
       (record {
@@ -411,7 +412,7 @@ module _ (l : ℕ) (set : Marks) where
       let given = handed_by Nb lcid sdu k in
       let x : Says Nb [] (λ s i. given s i ++ looped_at s i []) k.nb (Submit lcid sdu) =
       says_so Nb [] (λ s i. given s i ++ looped_at s i []) k.nb (Submit lcid sdu) tt refl none_flown refl refl
-      (λ i. sym (append-nil (submitted_in i k.nb (Submit lcid sdu)))) (λ i. refl) in
+      (λ i. sym (append-nil (submitted_in i k.nb (Submit lcid sdu)))) (λ i. refl) (λ sent. refl) in
       called_nb l set (Submit lcid sdu) [] given k (submits_by None Nb lcid sdu k) n (Stands Ue u)
       (record { adds_none = refl; moves_none = refl; unset = λ off. refl })
       (record {
@@ -429,7 +430,7 @@ module _ (l : ℕ) (set : Marks) where
       let given = handed_by Ue lcid sdu k in
       let x : Says Ue [] (λ s i. given s i ++ looped_at s i []) k.ue (Submit lcid sdu) =
       says_so Ue [] (λ s i. given s i ++ looped_at s i []) k.ue (Submit lcid sdu) tt refl none_flown refl refl
-      (λ i. sym (append-nil (submitted_in i k.ue (Submit lcid sdu)))) (λ i. refl) in
+      (λ i. sym (append-nil (submitted_in i k.ue (Submit lcid sdu)))) (λ i. refl) (λ sent. refl) in
       called_ue l set (Submit lcid sdu) [] given k (submits_by None Ue lcid sdu k) (Stands Nb n) u
       (record { adds_none = refl; moves_none = refl; unset = λ off. refl })
       (record {

@@ -1,6 +1,6 @@
 -- Stages of a link that go by steps of its ends: of no call, of one, and one stage behind the other.
-use Rattle.std.proofs.Common.{◌≡◌, ℕ, Bool, true, false, cond, None, List, [], ◌∷◌, ◌++◌, map, append_assoc, append-nil}
-use Rattle.std.proofs.Common.{refl, ap, sym, subst, ◌∙◌}
+use Rattle.std.proofs.Common.{◌≡◌, ℕ, Bool, true, false, cond, Some, None, not, ◌&&◌, if◌then◌else◌, List, [], ◌∷◌}
+use Rattle.std.proofs.Common.{◌++◌, map, append_assoc, append-nil, refl, ap, sym, subst, ◌∙◌}
 use Rattle.std.proofs.lemmas.List.{map-append}
 use Rattle.std.proofs.lemmas.List.Elements.{filter-append}
 use Rattle.std.specs.List.{filter, flat_map}
@@ -8,6 +8,7 @@ use Rattle.air_link.specs.Link.{Link, says, end_of}
 use Rattle.bearer_types.specs.Sides.{other, sent_by, is_same}
 use Rattle.air_record.specs.declared.record.Record.{Record}
 use Rattle.air_record.specs.declared.record.Record.TheVariants as records
+use Rattle.air_record.specs.declared.record.Arrived.TheVariants as arriveds
 use Rattle.bearer_types.specs.declared.event.Event.{Event}
 use Rattle.l2_node.specs.End.{End}
 use Rattle.l2_types.specs.declared.side.Side.{Side}
@@ -20,7 +21,7 @@ use Rattle.law_node.specs.Telling.{told_of}
 use Rattle.promises.specs.Records.{is_looped, event_of, events_of, sdu_of, sent_last}
 use Rattle.law_words.specs.Arrivals.{Given, AccountEntry}
 use Rattle.promises.specs.Given.{given_in, entries_of, entries_given}
-use Rattle.promises.specs.Events.{is_on, told_on, is_of_writing}
+use Rattle.promises.specs.Events.{is_on, told_on, is_of_writing, is_of_loop, TellNoLoop}
 use Rattle.law_deliver.specs.AmChannel.Arrival.{said_in, heard_in}
 use Rattle.bearer_types.specs.declared.event.Event.TheVariants as events
 use Rattle.law_node.specs.Bearers.{keys_in}
@@ -34,6 +35,7 @@ use Rattle.um_losses.specs.Told.{picked, told_in, place_behind}
 use Rattle.law_deliver.specs.UmGaps.Whats.{sent_in, expiries}
 use Rattle.promises.specs.Flows.{loops_in, looped_at}
 use Rattle.law_run.specs.TwoEnds.Shown.{IsShown}
+use Rattle.law_run.specs.TwoEnds.Logs.{LogEntry, Tells, all_tell, log_in, logged_at, logged}
 use Rattle.law_run.specs.TwoEnds.On.{IsStation}
 use Rattle.promises.specs.Arrival.{only_if, entries_at, entries_in}
 use Rattle.law_run.proofs.TwoEnds.Showing.{in_then, behind_then as place_then, events_own, events_hidden}
@@ -219,15 +221,16 @@ StayShown l k m = (bits : ℕ) → IsShown l bits k.kinds → IsShown l bits m.k
 told_stage : (l : ℕ) (set : Marks) (c d : Behind) (told : List Record) (k m : Link) (P Q : Station → Type 0)
     → ended c ≡ [] → ((sent : List ℕ) → Fits c sent → Fits d (last_in told sent))
     → ((p : Cursor) → IsAt c p → IsAt d (place_behind p told)) → TellNoAir told
-    → m.nb ≡ k.nb → m.ue ≡ k.ue → m.out ≡ k.out ++ told → ((side : Side) → events_of side told ≡ [])
+    → ((sent : List ℕ) → logged sent told ≡ []) → m.nb ≡ k.nb → m.ue ≡ k.ue → m.out ≡ k.out ++ told
+    → ((side : Side) → events_of side told ≡ [])
     → ((n : ℕ) → loops_in n told ≡ []) → StayShown l k m → ((d : Direction) (p : Cursor) → told_in d l p told ≡ [])
     → StageBehind l set c d P Q P Q k m
-told_stage l set c d told k m P Q open' left stands unflown nb ue out untold unlooped stays still a h = record {
+told_stage l set c d told k m P Q open' left stands unflown silent nb ue out untold unlooped stays still a h = record {
   air = a;
   more = told;
   out_is = out;
   ws = no_whats;
-  goes = unlooped_goes l set told a a unlooped (goes_none l set c told a open' untold unflown);
+  goes = unlooped_goes l set told a a unlooped (goes_none l set c told a open' untold unflown silent);
   left = left;
   stands = stands;
   shown = λ bits s from p at. with_none c open' (told_in (sent_by from) l p told) ∙ still (sent_by from) p;
@@ -242,12 +245,34 @@ IsNoAir one = (bits l : ℕ) (from : Side) (sent : List ℕ) → entries_at bits
 abbrev pub IsNoChange : Record → Type 0
 IsNoChange one = (p : Cursor) → change_of one p ≡ None
 
+-- one that tells nothing of either end, and of no block, is of no log
+not_logged : (one : Record) → event_of Nb one ≡ [] → event_of Ue one ≡ [] → IsNoChange one → (sent : List ℕ)
+    → logged_at sent one ≡ []
+not_logged (records.Of Nb event) nb ue still sent = by (is_of_loop event) nb
+  where
+    by : (b : Bool) → (if true && not b then event ∷ [] else []) ≡ [] → (if b then [] else Tells Nb event ∷ []) ≡ []
+    by true e = refl
+    by false e = cc
+not_logged (records.Of Ue event) nb ue still sent = by (is_of_loop event) ue
+  where
+    by : (b : Bool) → (if true && not b then event ∷ [] else []) ≡ [] → (if b then [] else Tells Ue event ∷ []) ≡ []
+    by true e = refl
+    by false e = cc
+not_logged (records.Block direction process true version octets) nb ue still sent =
+    let no : Some _ ≡ None = still (record { direction = direction; process = process; channel = None }) in cc
+not_logged (records.Block direction process false version octets) nb ue still sent = refl
+not_logged (records.Air direction arriveds.Got heard) nb ue still sent =
+    let no : Some _ ≡ None = still (record { direction = direction; process = 0; channel = None }) in cc
+not_logged (records.Air direction what heard) nb ue still sent = refl
+not_logged one nb ue still sent = refl
+
 pub says_behind : (l : ℕ) (set : Marks) (c : Behind) (one : Record) (k : Link) (P Q : Station → Type 0) → ended c ≡ []
     → IsNoAir one → event_of Nb one ≡ [] → event_of Ue one ≡ [] → ((n : ℕ) → is_looped n one ≡ false) → IsNoChange one
     → StageBehind l set c Any P Q P Q k (says one k)
 says_behind l set c one k P Q open' unflown nb ue unlooped still =
     told_stage l set c Any (one ∷ []) k (says one k) P Q open' (λ sent fits. tt) (λ p at. tt)
-    (λ bits m from sent. ap (λ (hs : List AccountEntry). hs ++ []) (unflown bits m from sent)) refl refl refl
+    (λ bits m from sent. ap (λ (hs : List AccountEntry). hs ++ []) (unflown bits m from sent))
+    (λ sent. ap (λ (hs : List LogEntry). hs ++ []) (not_logged one nb ue still sent)) refl refl refl
     (by_sides (λ side. events_of side (one ∷ []) ≡ []) (ap (λ (es : List Event). es ++ []) nb)
     (ap (λ (es : List Event). es ++ []) ue))
     (λ n. unlooped_by n one [] (unlooped n) refl) (λ bits s. s) (λ d p. ap (λ o. picked d l o ++ []) (still p))
@@ -267,8 +292,8 @@ says_rests l set one k unflown nb ue unlooped still n u =
 pub still_behind : (l : ℕ) (set : Marks) (c : Behind) (k m : Link) (P Q : Station → Type 0) → ended c ≡ []
     → m.nb ≡ k.nb → m.ue ≡ k.ue → m.out ≡ k.out → StayShown l k m → StageBehind l set c c P Q P Q k m
 still_behind l set c k m P Q open' nb ue out stays =
-    told_stage l set c c [] k m P Q open' (λ sent fits. fits) (λ p at. at) (λ bits m from sent. refl) nb ue
-    (out ∙ sym (append-nil k.out)) (λ side. refl) (λ n. refl) stays (λ d p. refl)
+    told_stage l set c c [] k m P Q open' (λ sent fits. fits) (λ p at. at) (λ bits m from sent. refl) (λ sent. refl)
+    nb ue (out ∙ sym (append-nil k.out)) (λ side. refl) (λ n. refl) stays (λ d p. refl)
 
 pub still_rests : (l : ℕ) (set : Marks) (k m : Link) → m.nb ≡ k.nb → m.ue ≡ k.ue → m.out ≡ k.out → StayShown l k m
     → Rests l set k m
@@ -393,19 +418,40 @@ plain_hears l e (Receive block) p = absurd p
 plain_hears l e (Expire lcid clock) p = refl
 plain_hears l e (Move keys) p = refl
 
+-- its log is what it tells
+pub plain_log : (side : Side) (e : End) (c : EndCall) → IsPlain c → log_in side e c ≡ all_tell side (told_of e c)
+plain_log side e (Visits t) p = absurd p
+plain_log side e (Receive block) p = absurd p
+plain_log side e c p = refl
+
+-- as records tell it, where the test loop drops nothing
+pub own_logged : (side : Side) (es : List Event) → TellNoLoop es → (sent : List ℕ)
+    → logged sent (map (records.Of side) es) ≡ all_tell side es
+own_logged side [] q sent = refl
+own_logged side (e ∷ es) q sent = by (is_of_loop e) q (λ r. own_logged side es r sent)
+  where
+    by : (b : Bool) → cond b (e ∷ filter is_of_loop es) (filter is_of_loop es) ≡ []
+        → (TellNoLoop es → logged sent (map (records.Of side) es) ≡ all_tell side es)
+        → (if b then [] else Tells side e ∷ []) ++ logged sent (map (records.Of side) es)
+        ≡ Tells side e ∷ all_tell side es
+    by true r rest = cc
+    by false r rest = ap (λ (hs : List LogEntry). Tells side e ∷ hs) (rest r)
+
 -- records of a plain call that tell nothing of the air
 pub says_so : (side : Side) (told : List Record) (given : Side → ℕ → List (List ℕ)) (e : End) (c : EndCall)
     → IsPlain c → keys_in c ≡ [] → TellNoAir told
     → events_of side told ≡ told_of e c → events_of (other side) told ≡ []
     → ((n : ℕ) → submitted_in n e c ≡ given side n)
-    → ((n : ℕ) → [] ≡ given (other side) n) → Says side told given e c
-says_so side told given e c plain stays unflown own far submits rests = record {
+    → ((n : ℕ) → [] ≡ given (other side) n) → ((sent : List ℕ) → log_in side e c ≡ logged sent told)
+    → Says side told given e c
+says_so side told given e c plain stays unflown own far submits rests logs = record {
   told_is = own;
   other_told = far;
   submitted_is = submits;
   other_submitted = rests;
   says = λ bits l sent. plain_says bits l e c plain stays ∙ sym (unflown bits l side sent);
   hears = λ bits l sent. plain_hears l e c plain ∙ sym (unflown bits l (other side) sent);
+  logs = logs;
 }
 
 pub none_flown : TellNoAir []
@@ -416,8 +462,10 @@ pub says_nothing : (side : Side) (e : End) (c : EndCall) → IsPlain c → keys_
     → ((n : ℕ) → submitted_in n e c ≡ []) → Says side [] (λ s n. looped_at s n []) e c
 says_nothing Nb e c plain stays untold unsaid =
     says_so Nb [] (λ s n. looped_at s n []) e c plain stays none_flown (sym untold) refl unsaid (λ n. refl)
+    (λ sent. plain_log Nb e c plain ∙ ap (all_tell Nb) untold)
 says_nothing Ue e c plain stays untold unsaid =
     says_so Ue [] (λ s n. looped_at s n []) e c plain stays none_flown (sym untold) refl unsaid (λ n. refl)
+    (λ sent. plain_log Ue e c plain ∙ ap (all_tell Ue) untold)
 
 idle_still : (n : Moment) (s : Station) (e : End) → IsIdle n s → IsIdle n (record s { end = e })
 idle_still (Waits t) s e h = h

@@ -20,6 +20,8 @@ use Rattle.law_run.specs.TwoEnds.On.{IsOn}
 use Rattle.law_run.specs.TwoEnds.Staying.{AreInLife, is_handover_step, MovesOn}
 use Rattle.law_run.proofs.TwoEnds.Advancing.{steps_stay, handovers_move}
 use Rattle.promises.specs.Arrival.{entries_in}
+use Rattle.law_run.specs.TwoEnds.Logs.{LogEntry, log_of, logged, LogAlone}
+use Rattle.law_run.proofs.TwoEnds.Going.{logs_then, logged_both}
 use Rattle.law_run.proofs.TwoEnds.Going.{setting, Unread, Whats, GoesBehind, behind_then, happens_then}
 use Rattle.law_run.proofs.TwoEnds.Coming.{either_off, ends_come_by, come_as}
 
@@ -55,6 +57,7 @@ pub record LivesOnIn (l : ℕ) (nb ue : End) (told : List Record) (submitted : S
   pub more : List Record
   pub out_is : (step s k).out ≡ k.out ++ more
   pub alone : TellAlone l more
+  pub log_alone : LogAlone more
   pub lived : LivedIn l nb ue (told ++ more)
       (λ side n. submitted side n ++ (handed_in side n s k ++ looped_at side n more))
       (λ bits from. said bits from ++ told_by_step bits l from s more) (set || sets l s) (step s k)
@@ -75,6 +78,7 @@ goes_in l told submitted said set whole m a x own off = record {
   sets_none = λ e. x.sets_none (off e);
   stays = λ e. own;
   reads = λ bits from sent fits. absurd fits;
+  logs = λ sent fits. absurd fits;
   whats_are = λ bits from. refl;
   air_is = refl;
 }
@@ -82,13 +86,15 @@ goes_in l told submitted said set whole m a x own off = record {
 lived_by : (l : ℕ) (nb ue : End) (told : List Record) (submitted : Side → ℕ → List (List ℕ)) (said : ℕ → Side
     → List AccountEntry) (set : Bool) (m : Link) {ws : Whats} (b : Air)
     (x : Goes l set told submitted ws (outset nb ue) b)
-    → ((bits : ℕ) (from : Side) → happened bits l from x.steps (outset nb ue) ≡ said bits from) → IsOn m b
+    → ((bits : ℕ) (from : Side) → happened bits l from x.steps (outset nb ue) ≡ said bits from)
+    → log_of x.steps (outset nb ue) ≡ logged [] told → IsOn m b
     → LivedIn l nb ue told submitted said set m
-lived_by l nb ue told submitted said set m {ws} b x happens on = record {
+lived_by l nb ue told submitted said set m {ws} b x happens logs on = record {
   by = record {
     steps = x.steps;
     living = x.living;
     told_is = x.told_is;
+    logged_is = logs;
     submitted_is = x.submitted_is;
     happened_is = happens;
     sets_none = x.sets_none;
@@ -122,12 +128,19 @@ steps_live_in l nb ue told submitted said set s k g own h =
     refl (λ sent fits. absurd fits) before behind
     ∙ (ap (λ (hs : List AccountEntry). hs ++ happened bits l from x.by.steps b) (h.by.happened_is bits from)
     ∙ ap (λ (hs : List AccountEntry). said bits from ++ hs) (x.by.happened_is bits from)) in
+    let logs : log_of whole.steps a ≡ logged [] (told ++ x.more) =
+    logs_then l (setting sets_any) Unread Unread told x.more submitted more a b (lives x.by.steps b) refl
+    (λ sent fits. absurd fits) before behind
+    ∙ (ap (λ (hs : List LogEntry). hs ++ log_of x.by.steps b) h.by.logged_is
+    ∙ (ap (λ (hs : List LogEntry). logged [] told ++ hs) x.by.logged_is
+    ∙ sym (logged_both told x.more x.log_alone))) in
     record {
       more = x.more;
       out_is = x.out_is;
       alone = x.alone;
+      log_alone = x.log_alone;
       lived = lived_by l nb ue (told ++ x.more) (λ side n. submitted side n ++ more side n)
-          (λ bits from. said bits from ++ tells bits from) sets_any m (lives x.by.steps b) whole happens x.by.on;
+          (λ bits from. said bits from ++ tells bits from) sets_any m (lives x.by.steps b) whole happens logs x.by.on;
     }
 
 -- ---- where a life begins

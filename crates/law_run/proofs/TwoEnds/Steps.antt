@@ -28,6 +28,7 @@ use Rattle.law_deliver.specs.AmChannel.Lives.{AirStep, InLife, Moves, brought}
 use Rattle.law_rlc.specs.AmPair.Flow.{except}
 use Rattle.um_losses.specs.declared.flow.Happening.TheVariants.{LifeRestarted}
 use Rattle.law_deliver.specs.UmGaps.Whats.{sent_in, expiries, brought as what_came, whats}
+use Rattle.law_run.specs.TwoEnds.Logs.{LogEntry, all_tell, log_in, log_over, logged}
 use Rattle.law_run.specs.TwoEnds.On.{IsHeld, IsStation}
 use Rattle.law_run.proofs.TwoEnds.Flying.{gone, without, without_gone}
 use Rattle.law_run.proofs.TwoEnds.Stations.{Done, wait}
@@ -51,6 +52,7 @@ pub record Says (side : Side) (told : List Record) (given : Side → ℕ
   pub other_submitted : (n : ℕ) → [] ≡ given (other side) n
   pub says : (bits l : ℕ) (sent : List ℕ) → said_in bits l e c ≡ entries_in bits l side sent told
   pub hears : (bits l : ℕ) (sent : List ℕ) → heard_in l e c ≡ entries_in bits l (other side) sent told
+  pub logs : (sent : List ℕ) → log_in side e c ≡ logged sent told
 
 -- an end's one call, by what it sends and by what it hears
 said_one : (bits l : ℕ) (e : End) (c : EndCall) → ((said_in bits l e c ++ []) ++ []) ++ [] ≡ said_in bits l e c
@@ -60,6 +62,12 @@ said_one bits l e c =
 
 heard_one : (l : ℕ) (e : End) (c : EndCall) → ([] ++ (heard_in l e c ++ [])) ++ [] ≡ heard_in l e c
 heard_one l e c = let hs = heard_in l e c in append-nil (hs ++ []) ∙ append-nil hs
+
+nb_one : (hs : List LogEntry) → ((hs ++ []) ++ []) ++ [] ≡ hs
+nb_one hs = append-nil ((hs ++ []) ++ []) ∙ (append-nil (hs ++ []) ∙ append-nil hs)
+
+ue_one : (hs : List LogEntry) → ([] ++ (hs ++ [])) ++ [] ≡ hs
+ue_one hs = append-nil (hs ++ []) ∙ append-nil hs
 
 -- a call in a life, in which it sets no discard timer on the channel where `set` is false
 pub record IsPlayed (l : ℕ) (set : Marks) (c : EndCall) : Type 0 where
@@ -114,6 +122,7 @@ goes_call l set Nb told given c a g life calling x =
           λ bits from sent fits. by_sides (λ (side : Side). happened bits l side xs a
           ≡ entries_in bits l side sent told) (said_one bits l a.nb.end c ∙ x.says bits l sent)
           (heard_one l a.nb.end c ∙ x.hears bits l sent) from;
+      logs = λ sent fits. nb_one (log_in Nb a.nb.end c) ∙ x.logs sent;
       whats_are = whats_by l xs a (call_whats Nb l a.nb.end c) (λ bits. append-nil (sent_in Nb l bits a.nb.end c))
           (λ bits. append-nil (expiries l (told_of a.nb.end c)));
       air_is = refl;
@@ -133,6 +142,7 @@ goes_call l set Ue told given c a g life calling x =
           λ bits from sent fits. by_sides (λ (side : Side). happened bits l side xs a
           ≡ entries_in bits l side sent told) (heard_one l a.ue.end c ∙ x.hears bits l sent)
           (said_one bits l a.ue.end c ∙ x.says bits l sent) from;
+      logs = λ sent fits. ue_one (log_in Ue a.ue.end c) ∙ x.logs sent;
       whats_are = whats_by l xs a (call_whats Ue l a.ue.end c) (λ bits. append-nil (expiries l (told_of a.ue.end c)))
           (λ bits. append-nil (sent_in Ue l bits a.ue.end c));
       air_is = refl;
@@ -145,6 +155,7 @@ pub record Brings (l : ℕ) (c : Behind) (side : Side) (told : List Record) (oct
   pub own : (bits : ℕ) (sent : List ℕ) → Fits c sent → entries_in bits l side sent told ≡ []
   pub far : (bits : ℕ) (sent : List ℕ) → Fits c sent
       → entries_in bits l (other side) sent told ≡ heard_in l e (Receive octets)
+  pub log : (sent : List ℕ) → Fits c sent → logged sent told ≡ log_in side e (Receive octets)
 
 none_said : (bits l : ℕ) (o : Option Block) (e : End) → (said_over bits l (brought o) e ++ []) ++ [] ≡ []
 none_said bits l None e = refl
@@ -184,6 +195,8 @@ goes_come l set c Nb told k b a open' brings there is untold =
           ∙ (heard_one l e (Receive b.octets)
           ∙ sym (ap (λ (hs : List AccountEntry). hs ++ entries_in bits l Ue sent told) open'
           ∙ brings.far bits sent fits))) from;
+      logs = λ sent fits. ap (λ (o : Option Block). ((log_over Nb (brought o) e) ++ []) ++ []) there
+          ∙ (nb_one (log_in Nb e (Receive b.octets)) ∙ sym (brings.log sent fits));
       whats_are = whats_by l xs a (come_whats Nb l e b) (λ bits. refl)
           (λ bits. append-nil (what_came l e (slice_get a.ue.blocks k)) ∙ ap (what_came l e) there);
       air_is = ap (λ (o : Option Block). record a { nb = comes a.nb o }) there;
@@ -212,6 +225,8 @@ goes_come l set c Ue told k b a open' brings there is untold =
           (none_said bits l (slice_get a.nb.blocks k) e
           ∙ sym (ap (λ (hs : List AccountEntry). hs ++ entries_in bits l Ue sent told) open'
           ∙ brings.own bits sent fits)) from;
+      logs = λ sent fits. ap (λ (o : Option Block). ([] ++ log_over Ue (brought o) e) ++ []) there
+          ∙ (ue_one (log_in Ue e (Receive b.octets)) ∙ sym (brings.log sent fits));
       whats_are =
           whats_by l xs a (come_whats Ue l e b) (λ bits. append-nil (what_came l e (slice_get a.nb.blocks k))
           ∙ ap (what_came l e) there) (λ bits. refl);
@@ -222,9 +237,10 @@ goes_come l set c Ue told k b a open' brings there is untold =
 
 pub goes_move : (l : ℕ) (set : Bool) (told : List Record) (keys : Keys) (a : Air) → TellNoAir told
     → events_of Nb told ≡ leaving a.nb.end → events_of Ue told ≡ leaving a.ue.end
+    → ((sent : List ℕ) → logged sent told ≡ all_tell Nb (leaving a.nb.end) ++ all_tell Ue (leaving a.ue.end))
     → GoesBehind l (moving set) Renewed told none (move_whats l a keys) a
     (outset (after_call a.nb.end (Move keys)) (after_call a.ue.end (Move keys)))
-goes_move l set told keys a unflown nb ue =
+goes_move l set told keys a unflown nb ue log =
     let xs : List AirStep = Moves keys ∷ [] in
     record {
       steps = xs;
@@ -239,6 +255,11 @@ goes_move l set told keys a unflown nb ue =
           ≡ Renews ∷ entries_in bits l s sent told)
           (ap (λ (hs : List AccountEntry). Renews ∷ hs) (sym (unflown bits l Nb sent)))
           (ap (λ (hs : List AccountEntry). Renews ∷ hs) (sym (unflown bits l Ue sent))) from;
+      logs = λ sent fits.
+          let ns = all_tell Nb (leaving a.nb.end) in let us = all_tell Ue (leaving a.ue.end) in
+          append-nil ((ns ++ []) ++ (us ++ []))
+          ∙ (ap (λ (hs : List LogEntry). hs ++ (us ++ [])) (append-nil ns)
+          ∙ (ap (λ (hs : List LogEntry). ns ++ hs) (append-nil us) ∙ sym (log sent)));
       whats_are = whats_by l xs a (move_whats l a keys) (λ bits. append-nil (move_whats l a keys bits Nb))
           (λ bits. append-nil (move_whats l a keys bits Ue));
       air_is = refl;
@@ -259,6 +280,7 @@ goes_one l set Nb k a =
       sets_none = λ off. by_sides (Unset l xs a) tt tt;
       stays = λ off. tt;
       reads = λ bits from sent fits. by_sides (λ (s : Side). happened bits l s xs a ≡ []) refl refl from;
+      logs = λ sent fits. refl;
       whats_are = whats_by l xs a no_whats (λ bits. refl) (λ bits. refl);
       air_is = refl;
     }
@@ -272,6 +294,7 @@ goes_one l set Ue k a =
       sets_none = λ off. by_sides (Unset l xs a) tt tt;
       stays = λ off. tt;
       reads = λ bits from sent fits. by_sides (λ (s : Side). happened bits l s xs a ≡ []) refl refl from;
+      logs = λ sent fits. refl;
       whats_are = whats_by l xs a no_whats (λ bits. refl) (λ bits. refl);
       air_is = refl;
     }
@@ -279,8 +302,8 @@ goes_one l set Ue k a =
 goes_all : (l : ℕ) (set : Marks) (side : Side) (ks : List ℕ) (a : Air)
     → Goes l set [] none no_whats a
     (with_station side (record (station side a) { blocks = without ks (station side a).blocks }) a)
-goes_all l set Nb [] a = goes_none l set Any [] a refl (λ side. refl) (λ bits l from sent. refl)
-goes_all l set Ue [] a = goes_none l set Any [] a refl (λ side. refl) (λ bits l from sent. refl)
+goes_all l set Nb [] a = goes_none l set Any [] a refl (λ side. refl) (λ bits l from sent. refl) (λ sent. refl)
+goes_all l set Ue [] a = goes_none l set Any [] a refl (λ side. refl) (λ bits l from sent. refl) (λ sent. refl)
 goes_all l set Nb (k ∷ ks) a =
     let b : Air = record a { nb = record a.nb { blocks = except k a.nb.blocks } } in
     goes_then l set [] [] none none a b (record a { nb = record a.nb { blocks = without (k ∷ ks) a.nb.blocks } })
@@ -330,6 +353,7 @@ goes_pass l set t a nb ue =
       sets_none = λ off. by_sides (Unset l xs a) tt tt;
       stays = λ off. tt;
       reads = λ bits from sent fits. by_sides (λ (s : Side). happened bits l s xs a ≡ []) refl refl from;
+      logs = λ sent fits. refl;
       whats_are = whats_by l xs a no_whats (λ bits. refl) (λ bits. refl);
       air_is = refl;
     }

@@ -1,6 +1,6 @@
 -- The downlink and the uplink of a TTI as steps of both ends.
-use Rattle.std.proofs.Common.{◌≡◌, ◌≤◌, ℕ, ◌%◌, ◌==◌, Bool, true, false, if◌then◌else◌, Option, Some, None}
-use Rattle.std.proofs.Common.{List, [], map, append-nil, refl, ap, sym, subst, arith, ◌∙◌}
+use Rattle.std.proofs.Common.{◌≡◌, ◌≤◌, ℕ, ◌%◌, ◌==◌, Bool, true, false, if◌then◌else◌, Option, Some, None, List, []}
+use Rattle.std.proofs.Common.{map, append-nil, refl, ap, sym, subst, arith, ◌∙◌}
 use Rattle.air_record.specs.declared.line.Fate.{Fate}
 use Rattle.air_record.specs.declared.line.Fate.TheVariants.{Ok, Bad, Miss}
 use Rattle.air_record.specs.declared.line.Outcome.{Outcome}
@@ -33,14 +33,14 @@ use Rattle.law_deliver.specs.AmFlow.Air.{Station}
 use Rattle.law_run.proofs.TwoEnds.Going.{Marks, Behind, Any, Block', ended, none}
 use Rattle.law_run.proofs.TwoEnds.Resting.{call_rests}
 use Rattle.law_run.proofs.TwoEnds.Showing.{IsSending, visit_shows, quiet_shows, visit_behind}
-use Rattle.law_run.proofs.TwoEnds.Stages.{StageBehind, stages_then, says_behind, still_behind}
-use Rattle.law_run.proofs.TwoEnds.Stages.{called_nb_behind, called_ue_behind, events_unlooped}
-use Rattle.law_run.proofs.TwoEnds.Stages.{Stands, Stage, stage_then, says_stage, says_nothing, shows_nothing}
+use Rattle.law_run.proofs.TwoEnds.Stages.{StageBehind, stages_then, says_behind, still_behind, called_nb_behind}
+use Rattle.law_run.proofs.TwoEnds.Stages.{called_ue_behind, events_unlooped, Stands, Stage, stage_then, says_stage}
+use Rattle.law_run.proofs.TwoEnds.Stages.{says_nothing, shows_nothing}
 use Rattle.law_run.proofs.TwoEnds.Blocks.{Flown, hears_ue, hears_nb, Visiting, visit_nb, visit_ue, done_nb, done_ue}
 use Rattle.law_run.proofs.TwoEnds.Stations.{Moment, Waits, Done}
 use Rattle.law_run.proofs.TwoEnds.Visits.{turn_of, fed, IsLoud, IsSent, flown_new, flown_again, building_own, visit_own}
-use Rattle.law_run.proofs.TwoEnds.Visits.{visit_other, others_tell, visit_last, visit_says, visit_hears, quiet_says}
-use Rattle.law_run.proofs.TwoEnds.Visits.{visit_unlooped, fed_is, quiet_is}
+use Rattle.law_run.proofs.TwoEnds.Visits.{visit_other, others_tell, visit_last, visit_says, visit_hears, visit_logs}
+use Rattle.law_run.proofs.TwoEnds.Visits.{quiet_says, quiet_logs, visit_unlooped, fed_is, quiet_is}
 
 module _ (l : ℕ) (set : Marks) where
   -- ---- the downlink
@@ -135,6 +135,7 @@ module _ (l : ℕ) (set : Marks) where
         unlooped = λ n. visit_unlooped v Nb turn k.kinds octets k.nb n;
         says = λ bits j sent come. visit_says v bits j Nb turn k.kinds octets k.nb sent is come octets_are;
         hears = λ bits j sent. sym (visit_hears v bits j Nb turn k.kinds octets k.nb sent);
+        logs = λ sent come. visit_logs v Nb turn k.kinds octets k.nb sent is come octets_are;
         kinds_are = ap (λ (s : Seen). s.kinds) same;
         shown = visit_shows v l Nb turn k.kinds octets k.nb is octets_are;
       }) in
@@ -165,6 +166,7 @@ module _ (l : ℕ) (set : Marks) where
         unlooped = λ n. events_unlooped n Nb es;
         says = λ bits j sent come. quiet_says bits j Nb turn k.nb sent is;
         hears = λ bits j sent. sym (others_tell bits j Nb es sent);
+        logs = λ sent come. quiet_logs Nb turn k.nb sent is;
         kinds_are = ap (λ (s : Seen). s.kinds) same;
         shown = λ come. quiet_shows l Nb turn k.kinds k.nb is;
       }))
@@ -240,6 +242,7 @@ module _ (l : ℕ) (set : Marks) where
         unlooped = λ n. visit_unlooped v Ue turn k.kinds octets k.ue n;
         says = λ bits j sent come. visit_says v bits j Ue turn k.kinds octets k.ue sent is come octets_are;
         hears = λ bits j sent. sym (visit_hears v bits j Ue turn k.kinds octets k.ue sent);
+        logs = λ sent come. visit_logs v Ue turn k.kinds octets k.ue sent is come octets_are;
         kinds_are = ap (λ (s : Seen). s.kinds) same;
         shown = visit_shows v l Ue turn k.kinds octets k.ue is octets_are;
       }) in
@@ -284,6 +287,7 @@ module _ (l : ℕ) (set : Marks) where
         unlooped = λ n. events_unlooped n Ue es;
         says = λ bits j sent come. quiet_says bits j Ue turn k.ue sent is;
         hears = λ bits j sent. sym (others_tell bits j Ue es sent);
+        logs = λ sent come. quiet_logs Ue turn k.ue sent is;
         kinds_are = ap (λ (s : Seen). s.kinds) same;
         shown = λ come. quiet_shows l Ue turn k.kinds k.ue is;
       }))

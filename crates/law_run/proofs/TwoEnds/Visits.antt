@@ -42,9 +42,10 @@ use Rattle.law_deliver.specs.AmChannel.Arrival.{said_in}
 use Rattle.mac_pdu.specs.Reading.{reading}
 use Rattle.l2_node.specs.Writing.{new_block}
 use Rattle.promises.specs.Arrival.{only_if, entries_at, entries_in}
-use Rattle.law_run.proofs.TwoEnds.Going.{last_in, tells_more}
+use Rattle.law_run.specs.TwoEnds.Logs.{LogEntry, Builds, all_tell, log_in, logged_at, logged}
+use Rattle.law_run.proofs.TwoEnds.Going.{last_in, tells_more, logged_more}
 use Rattle.law_run.proofs.TwoEnds.Showing.{IsSending}
-use Rattle.law_run.proofs.TwoEnds.Stages.{last_more}
+use Rattle.law_run.proofs.TwoEnds.Stages.{last_more, own_logged}
 use Rattle.law_run.proofs.TwoEnds.Stages.{unlooped_by, events_unlooped, looped_more}
 use Rattle.law_run.proofs.TwoEnds.Blocks.{Flown, Visiting}
 use Rattle.law_run.proofs.TwoEnds.Blocks.{answer_to}
@@ -278,6 +279,64 @@ quiet_says bits l side t e sent' is =
     (flat_map (carried l (sent_by e.side))
     (map (λ (x : Block). x.octets) (built_at w t (visited t.tti t.order e))))) is
     ∙ (append-nil (entries_given bits (told_on l es)) ∙ sym (own_tell bits l side es sent'))
+
+-- and in one order
+shown_log_at : (sent : List ℕ) (one : Record) → is_shown one ≡ true → logged_at sent one ≡ []
+shown_log_at sent (records.Of side event) e = cc
+shown_log_at sent (records.Block direction process fresh version octets) e = cc
+shown_log_at sent (records.Air direction what heard) e = cc
+shown_log_at sent one e = refl
+
+shown_log : (told : List Record) → AllShown told → (sent : List ℕ) → logged sent told ≡ []
+shown_log [] a sent = refl
+shown_log (one ∷ told) a sent =
+    ap (λ (hs : List LogEntry). hs ++ logged (sent_last one sent) told) (shown_log_at sent one a.0)
+    ∙ shown_log told a.1 (sent_last one sent)
+
+abbrev all_built : Side → List (List ℕ) → List LogEntry
+all_built side blocks = map (λ (octets : List ℕ). Builds side octets) blocks
+
+sent_logs : (v : Visit) (side : Side) (t : Turn) (kinds : List (Option Layout)) (octets : List ℕ) (e : End)
+    (sent' : List ℕ) → visit t.tti t.order e ≡ v → HasCome side e
+    → octets ≡ block_at t.tti (built t.tti t.grant t.order e)
+    → logged sent' (sent v side t.tti kinds octets)
+    ≡ all_built side (map (λ (x : Block). x.octets) (built_at v t (visited t.tti t.order e)))
+sent_logs New side t kinds octets e sent' is come are =
+    let own : (new_block (visited t.tti t.order e) t.grant) ≡ octets =
+    sym (block_is t.tti t.grant t.order e (come_eight side e come) is) ∙ sym are in
+    ap (λ (hs : List LogEntry). Builds (sender_of (sent_by side)) octets ∷ hs)
+    (shown_log (block_shown (sent_by side) kinds octets) (block_shows kinds (reading (sent_by side) octets)) octets)
+    ∙ (ap (λ (s : Side). Builds s octets ∷ []) (itself side)
+    ∙ ap (λ (o : List ℕ). Builds side o ∷ []) (sym own))
+  where
+    itself : (s : Side) → sender_of (sent_by s) ≡ s
+    itself Nb = refl
+    itself Ue = refl
+sent_logs (Resend rv) side t kinds octets e sent' is come are = refl
+sent_logs Quiet side t kinds octets e sent' is come are = refl
+
+pub visit_logs : (v : Visit) (side : Side) (t : Turn) (kinds : List (Option Layout)) (octets : List ℕ) (e : End)
+    (sent' : List ℕ) → visit t.tti t.order e ≡ v → HasCome side e
+    → octets ≡ block_at t.tti (built t.tti t.grant t.order e)
+    → log_in side e (Visits t) ≡ logged sent' (visit_records v side t.tti t.grant t.order kinds octets e)
+visit_logs v side t kinds octets e sent' is come are =
+    let es = building t.tti t.grant t.order e in
+    let xs = map (records.Of side) es in
+    let ys = sent v side t.tti kinds octets in
+    let f = visited t.tti t.order e in
+    ap (λ (w : Visit). all_tell side es ++ all_built side (map (λ (x : Block). x.octets) (built_at w t f))) is
+    ∙ (ap (λ (hs : List LogEntry). all_tell side es ++ hs)
+    (sym (sent_logs v side t kinds octets e (last_in xs sent') is come are))
+    ∙ (ap (λ (hs : List LogEntry). hs ++ logged (last_in xs sent') ys)
+    (sym (own_logged side es (tells_no_loop e (Visits t)) sent')) ∙ sym (logged_more sent' xs ys)))
+
+pub quiet_logs : (side : Side) (t : Turn) (e : End) (sent' : List ℕ) → visit t.tti t.order e ≡ Quiet
+    → log_in side e (Visits t) ≡ logged sent' (map (records.Of side) (building t.tti t.grant t.order e))
+quiet_logs side t e sent' is =
+    let es = building t.tti t.grant t.order e in
+    ap (λ (w : Visit). all_tell side es
+    ++ all_built side (map (λ (x : Block). x.octets) (built_at w t (visited t.tti t.order e)))) is
+    ∙ (append-nil (all_tell side es) ∙ sym (own_logged side es (tells_no_loop e (Visits t)) sent'))
 
 -- and of no SDU of the test loop
 not_looped : (n : ℕ) (one : Record) → looped one ≡ [] → is_looped n one ≡ false

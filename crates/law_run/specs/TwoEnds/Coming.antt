@@ -21,6 +21,7 @@ use Rattle.law_run.specs.TwoEnds.Arrival.{told_by_step}
 use Rattle.law_run.specs.TwoEnds.Going.{handed_in, sets, TellAlone, GoesByAir, IsStepSince}
 use Rattle.promises.specs.Flows.{looped_at}
 use Rattle.law_run.specs.TwoEnds.Lives.{IsAtRest}
+use Rattle.law_run.specs.TwoEnds.Logs.{LogAlone}
 use Rattle.law_run.specs.TwoEnds.Shown.{IsShown, anew}
 
 abbrev pub none_yet : Side → ℕ → List (List ℕ)
@@ -47,6 +48,7 @@ pub record ComesOn (l : ℕ) (told : List Record) (submitted : Side → ℕ → 
   pub more : List Record
   pub out_is : (step s k).out ≡ k.out ++ more
   pub alone : TellAlone l more
+  pub log_alone : LogAlone more
   pub by : GoesByAir l (told ++ more)
       (λ side n. submitted side n ++ (handed_in side n s k ++ looped_at side n more))
       (λ bits from. said bits from ++ told_by_step bits l from s more) (set || sets l s)

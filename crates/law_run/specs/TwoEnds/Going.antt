@@ -17,6 +17,7 @@ use Rattle.law_deliver.specs.AmChannel.Arrival.{happened}
 use Rattle.law_deliver.specs.AmChannel.Delivery.{accepted, was_submitted, SetNone}
 use Rattle.law_deliver.specs.AmChannel.Lives.{AirStep, AreLiving, lives, end_at, all_calls}
 use Rattle.law_run.specs.TwoEnds.Arrival.{told_by_step}
+use Rattle.law_run.specs.TwoEnds.Logs.{log_of, logged, LogAlone}
 use Rattle.promises.specs.Arrival.{entries_in}
 use Rattle.um_losses.specs.declared.cursor.Cursor.{Cursor}
 use Rattle.um_losses.specs.Told.{told_in}
@@ -50,15 +51,17 @@ TellAlone l told = (bits : ℕ) (from : Side) (sent : List ℕ)
     → entries_in bits l from sent told ≡ entries_in bits l from [] told
 
 -- steps that keep what is asked in lives of the channel's bearers bring the ends to those of a
--- link; the records tell of each end exactly what it tells in its calls, in these it is submitted
--- exactly those SDUs on each channel, just so much is told of what goes from a side on the channel,
--- and no discard timer is set on it where `set` is false
+-- link; the records tell of each end exactly what it tells in its calls, and in one order what both
+-- tell, build and hear; in these each is submitted exactly those SDUs on each channel, just so much
+-- is told of what goes from a side on the channel, and no discard timer is set on it where `set` is
+-- false
 pub record GoesByAir (l : ℕ) (told : List Record) (submitted : Side → ℕ → List (List ℕ)) (said : ℕ
     → Side → List AccountEntry) (set : Bool) (m : Link) (a : Air) : Type 0 where
   pub steps : List AirStep
   pub living : AreLiving l a steps
   pub told_is : (side : Side) → events_of side told
       ≡ told_over (all_calls side steps a) (end_at side a)
+  pub logged_is : log_of steps a ≡ logged [] told
   pub submitted_is : (side : Side) (n : ℕ)
       → was_submitted n (all_calls side steps a) (end_at side a) ≡ submitted side n
   pub happened_is : (bits : ℕ) (from : Side) → happened bits l from steps a ≡ said bits from
@@ -72,6 +75,7 @@ pub record GoesOn (l : ℕ) (s : Step) (k : Link) (a : Air) : Type 0 where
   pub more : List Record
   pub out_is : (step s k).out ≡ k.out ++ more
   pub alone : TellAlone l more
+  pub log_alone : LogAlone more
   pub by : GoesByAir l more (λ side n. handed_in side n s k ++ looped_at side n more)
       (λ bits from. told_by_step bits l from s more) (sets l s) (step s k) a
   pub stays : (bits : ℕ) → IsShown l bits k.kinds → IsShown l bits (step s k).kinds
