@@ -25,3 +25,5 @@ pub mod AtOnce
 pub mod Singles
 pub mod SinglePdus
 pub mod Running
+pub mod Statuses
+pub mod Reports

@@ -5,4 +5,7 @@
 
 mod laws;
 
-pub use laws::{delivered_follows, runs_deliver, runs_tell_flows, same_counts_come};
+pub use laws::{
+    delivered_follows, reports_are_gathered, runs_deliver, runs_tell_flows, same_counts_come,
+    statuses_are_gathered,
+};
