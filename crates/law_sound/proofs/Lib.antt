@@ -27,3 +27,13 @@ pub mod SinglePdus
 pub mod Running
 pub mod Statuses
 pub mod Reports
+pub mod Hearings
+pub mod HeardBlocks
+pub mod Brought
+pub mod AirHearing
+pub mod Writing
+pub mod AirBlocks
+pub mod LogPdus
+pub mod Logs
+pub mod Gathering
+pub mod Lengths

@@ -3,3 +3,8 @@ pub mod DeliveryLaw
 pub mod RunLaws
 pub mod StatusLaws
 pub mod ReportLaws
+pub mod HearingLaws
+pub mod AirHearing
+pub mod LogLaws
+pub mod SduLaws
+pub mod GatherLaws
