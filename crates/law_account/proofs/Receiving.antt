@@ -160,41 +160,31 @@ settled w v bound mark a fields n front tops len written near pairs more r = rec
 
 -- ---- t-Reordering stops and starts
 
+-- another number for t-Reordering, or none
+with_mark : (w : RxWindow) (bound : ℕ) (mark next : Option ℕ) (a : FlowArrivals) (number : ℕ)
+    → AreArrivalsAccounted w bound mark a → IfSome next (IsMarkAccounted (record a { mark = number }))
+    → AreArrivalsAccounted w bound next (record a { mark = number })
+with_mark w bound mark next a number r m = record {
+  front = r.front;
+  bound_is = r.bound_is;
+  top_is = r.top_is;
+  front_low = r.front_low;
+  bound_low = r.bound_low;
+  top_low = r.top_low;
+  top_near = r.top_near;
+  front_open = r.front_open;
+  bound_open = r.bound_open;
+  numbers = r.numbers;
+  mark_is = m;
+}
+
 pub starting : (w : RxWindow) (bound : ℕ) (a : FlowArrivals) (b : Bool) → AreArrivalsAccounted w bound None a
     → AreArrivalsAccounted w bound (if b then Some (top w) else None) (started_in b a)
 starting w bound a false r = r
-starting w bound a true r = record {
-  front = r.front;
-  bound_is = r.bound_is;
-  top_is = r.top_is;
-  front_low = r.front_low;
-  bound_low = r.bound_low;
-  top_low = r.top_low;
-  top_near = r.top_near;
-  front_open = r.front_open;
-  bound_open = r.bound_open;
-  numbers = r.numbers;
-  mark_is = record {
-    is = r.top_is;
-    low = omega (arith, r.top_is);
-    passed = λ k le lt. absurd (omega (arith, le, lt, r.bound_low, r.top_is));
-  };
-}
-
-without_mark : (w : RxWindow) (bound : ℕ) (mark : Option ℕ) (a : FlowArrivals) → AreArrivalsAccounted w bound mark a
-    → AreArrivalsAccounted w bound None a
-without_mark w bound mark a r = record {
-  front = r.front;
-  bound_is = r.bound_is;
-  top_is = r.top_is;
-  front_low = r.front_low;
-  bound_low = r.bound_low;
-  top_low = r.top_low;
-  top_near = r.top_near;
-  front_open = r.front_open;
-  bound_open = r.bound_open;
-  numbers = r.numbers;
-  mark_is = tt;
+starting w bound a true r = with_mark w bound None (Some (top w)) a a.top r record {
+  is = r.top_is;
+  low = omega (arith, r.top_is);
+  passed = λ k le lt. absurd (omega (arith, le, lt, r.bound_low, r.top_is));
 }
 
 turned_accounted : (w : RxWindow) (bound : ℕ) (mark : Option ℕ) (a : FlowArrivals)
@@ -207,7 +197,7 @@ turned_accounted w bound (Some x) a r = by (nat_le x w.front)
     by : (b : Bool) → AreArrivalsAccounted w bound
         (mark_begun (if b then None else Some x) w.front (top w))
         (started_in (starts (if b then None else Some x) w.front (top w)) a)
-    by true = starting w bound a (nat_lt w.front (top w)) (without_mark w bound (Some x) a r)
+    by true = starting w bound a (nat_lt w.front (top w)) (with_mark w bound (Some x) None a a.mark r tt)
     by false = r
 
 -- ---- a PDU comes
