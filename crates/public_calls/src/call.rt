@@ -101,7 +101,7 @@ pub fn answer(alloc: Global, line: &str) -> Result<String, Fault> {
         ["write", ref words @ ..] => write(alloc, words),
         ["read", ref words @ ..] => read(alloc, words),
         ["command", ..] => commands::command(alloc, line),
-        ["l2", ..] => program::l2(alloc, line),
+        ["run" | "decode" | "check", ..] => program::played(alloc, line),
         ["session", chunk] => program::session(alloc, number(chunk)?),
         ["aes" | "cmac" | "eea0" | "eea2" | "eia2", ..] => secure(alloc, &words),
         _ => stream(alloc, &words),

@@ -1,6 +1,6 @@
 //! Makes each public call of the codecs, the ciphers, the streams, the command line and the scripts
-//! of numbers, with memory at hand, and prints what comes out; and runs the program over streams
-//! of which a read or a put fails.
+//! of numbers, with memory at hand, and prints what comes out; and runs the program's commands over
+//! streams of which a read or a put fails.
 //!
 //! Each line of the input names a call and what it is made with, and is printed with its answer. A
 //! line that begins with `#` says where the lines behind it come from.

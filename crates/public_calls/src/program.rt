@@ -1,11 +1,13 @@
-//! The program itself, over streams that fail.
+//! The program's commands, over streams that fail.
 
 ghost use Rattle.std.specs.Prelude.{◌<◌};
 
 use crate::fault::Fault;
 use crate::session;
+use check_command::check_journal;
+use l2_commands::{decode, run};
 use l2_io::{MemSink, MemSource};
-use l2_top::{Status, Words, l2_main};
+use line_player::Status;
 use std::alloc::Global;
 use std::str;
 
@@ -41,21 +43,43 @@ fn input(alloc: Global, text: &str) -> Result<Vec<u8>, Fault> {
     Ok(octets)
 }
 
-// How a run of the program ends. It stands apart so that its contract doesn't weigh on the callers.
+#[derive(Clone, Copy)]
+enum Command {
+    Run,
+    Decode,
+    Check,
+}
+
+impl Command {
+    fn named(word: &str) -> Result<Command, Fault> {
+        match word {
+            "run" => Ok(Command::Run),
+            "decode" => Ok(Command::Decode),
+            "check" => Ok(Command::Check),
+            _ => Err(Fault::Words),
+        }
+    }
+}
+
+// How a command ends. It stands apart so that its contract doesn't weigh on the callers.
 fn status_of(
     alloc: Global,
-    words: &Words,
+    command: Command,
     source: &mut MemSource,
     out: &mut MemSink,
     errs: &mut MemSink,
 ) -> Status {
-    l2_main(alloc, words, source, out, errs)
+    match command {
+        Command::Run => run(alloc, source, out, errs),
+        Command::Decode => decode(alloc, source, out, errs),
+        Command::Check => check_journal(alloc, source, out, errs),
+    }
 }
 
-/// The program's words, its input, and the calls that fail.
+/// A command, its input, and the calls that fail.
 #[derive(Drop)]
 struct Run {
-    words: Words,
+    command: Command,
     source: MemSource,
     out: MemSink,
     errs: MemSink,
@@ -64,17 +88,12 @@ struct Run {
 impl Run {
     fn read(alloc: Global, line: &str) -> Result<Run, Fault> {
         let parts: Vec<&str> = line.splitn(6, ' ').collect(alloc)?;
-        let [_, chunk, read, put, tell, rest] = *parts.as_slice() else {
+        let [word, chunk, read, put, tell, text] = *parts.as_slice() else {
             return Err(Fault::Words);
         };
-        let mut words = Words::new(alloc);
-        for word in rest.split('"').skip(1).step_by(2) {
-            words.push(word)?;
-        }
-        let text = rest.rsplit('"').next().unwrap_or(rest).trim_start();
         let chunk = chunk.parse::<usize>()?.max(1);
         Ok(Run {
-            words,
+            command: Command::named(word)?,
             source: MemSource::new(alloc, &input(alloc, text)?, chunk, &fails(alloc, read)?)?,
             out: MemSink::new(alloc, &fails(alloc, put)?)?,
             errs: MemSink::new(alloc, &fails(alloc, tell)?)?,
@@ -83,11 +102,9 @@ impl Run {
 
     /// A session with all parts, of which so many octets are read at a time.
     fn session(alloc: Global, chunk: u32) -> Result<Run, Fault> {
-        let mut words = Words::new(alloc);
-        words.push("run")?;
         let script = session::script(alloc)?;
         Ok(Run {
-            words,
+            command: Command::Run,
             source: MemSource::new(alloc, script.as_bytes(), chunk.max(1) as usize, &[])?,
             out: MemSink::new(alloc, &[])?,
             errs: MemSink::new(alloc, &[])?,
@@ -97,13 +114,13 @@ impl Run {
     /// What is written, what is told, and how the run ends.
     fn play(self, alloc: Global) -> Result<String, Fault> {
         let Run {
-            words,
+            command,
             source,
             out,
             errs,
         } = self;
         let (mut source, mut out, mut errs) = (source, out, errs);
-        let status = status_of(alloc, &words, &mut source, &mut out, &mut errs);
+        let status = status_of(alloc, command, &mut source, &mut out, &mut errs);
         let (written, told) = (
             str::from_utf8(out.written())?,
             str::from_utf8(errs.written())?,
@@ -112,10 +129,10 @@ impl Run {
     }
 }
 
-/// What the program writes and tells, and how it ends. A line has how many octets a read gives,
-/// which read, which put to the output and which put to the errors fails (`-` for none, counted
-/// from 0), and then the program's words in quotes and its input.
-pub fn l2(alloc: Global, line: &str) -> Result<String, Fault> {
+/// What a command writes and tells, and how it ends. A line has the command, how many octets a read
+/// gives, which read, which put to the output and which put to the errors fails (`-` for none,
+/// counted from 0), and the input.
+pub fn played(alloc: Global, line: &str) -> Result<String, Fault> {
     let told = Run::read(alloc, line)?.play(alloc)?;
     Ok(format!(in alloc; "\n{told}")?)
 }
