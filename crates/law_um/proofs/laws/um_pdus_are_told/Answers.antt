@@ -1,0 +1,5 @@
+use Rattle.law_um.proofs.UmSending.{um_pdus_are_told}
+use Rattle.law_um.proofs.laws.um_pdus_are_told.Goals as goal
+
+pub returns : goal.returns
+returns c = um_pdus_are_told

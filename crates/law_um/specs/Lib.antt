@@ -1,0 +1,4 @@
+pub mod UmReceiving
+pub mod UmLossesTold
+pub mod UmSending
+pub mod UmWriting
