@@ -13,9 +13,12 @@ pub mod Acts
 pub mod Air
 pub mod Accepting
 pub mod Links
+pub mod Carrying
 pub mod UnderWay
 pub mod Lives
 pub mod Events
 pub mod Alone
 pub mod Ups
 pub mod Reordering
+pub mod NoPdus
+pub mod Turns

@@ -4,6 +4,8 @@ pub mod Channels
 pub mod Air
 pub mod Links
 pub mod UnderWay
+pub mod Carrying
 pub mod Lives
 pub mod Ups
 pub mod Reordering
+pub mod NoPdus

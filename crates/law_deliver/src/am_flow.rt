@@ -2,10 +2,12 @@
 //! flow of both ends of RLC. They speak of the definitions that `bearer` meets, and do nothing.
 
 ghost use Rattle.law_deliver.specs.AmFlow.Air.{ChannelsArePairs};
+ghost use Rattle.law_deliver.specs.AmFlow.Carrying.{NumbersStay};
 ghost use Rattle.law_deliver.specs.AmFlow.Channels.{CallsReachBearers, BlocksCarryPdus};
 ghost use Rattle.law_deliver.specs.AmFlow.Flows.{BearersAreFlows};
 ghost use Rattle.law_deliver.specs.AmFlow.Links.{ChannelsAreFlows, NumbersAreOrdered};
 ghost use Rattle.law_deliver.specs.AmFlow.Lives.{AddsBegin, MovesBegin};
+ghost use Rattle.law_deliver.specs.AmFlow.NoPdus.{CallsBringNoPdu, TurnsTellNoReordering};
 ghost use Rattle.law_deliver.specs.AmFlow.Reordering.{BearersTellReordering};
 ghost use Rattle.law_deliver.specs.AmFlow.UnderWay.{BlocksCarryFlows, StatusesAreOfReports};
 ghost use Rattle.law_deliver.specs.AmFlow.Ups.{EndsTellWhatGoesUp, EndsTellOver, MovesTellTheEnd};
@@ -93,4 +95,18 @@ pub fn moves_tell_the_end()
 /// where its receiver starts it and where it expires there, in this order.
 pub fn bearers_tell_reordering()
     ensures { BearersTellReordering }
+{}
+
+/// A call of an end in which no block comes brings its bearer of a channel no PDU; and as an
+/// acknowledged bearer writes into a new block it tells nothing of t-Reordering.
+pub fn calls_bring_no_pdu()
+    ensures calls { CallsBringNoPdu }
+    ensures turns { TurnsTellNoReordering }
+{}
+
+/// Each block keeps the true numbers that its PDUs of the channel were written with, until it is
+/// let go: a data PDU the number that the sender gave it, a STATUS its ACK and its entries. With
+/// just these they are under way in the flows, at each moment.
+pub fn numbers_stay()
+    ensures { NumbersStay }
 {}

@@ -43,7 +43,7 @@ use Rattle.law_run.specs.TwoEnds.ChannelLog.{HasRoom, EndsLogOnChannels, SidesLo
 use Rattle.law_run.specs.TwoEnds.Logs.{LogEntry, all_tell, log_in, log_at, log_of, log_over, Builds, Hears}
 use Rattle.law_run.specs.TwoEnds.SenderLog.{BearerEntry, Tells, Writes, Comes, telling, writing, bearer_log}
 use Rattle.law_run.specs.TwoEnds.SenderLog.{bearer_logs}
-use Rattle.law_run.proofs.KeptByCalls.{said_both, said_log}
+use Rattle.law_run.proofs.KeptByCalls.{said_all, said_both, said_log}
 
 -- ---- the parts of a log
 
@@ -75,9 +75,29 @@ written_writing : (written : List (List ℕ)) → written_in (writing written) �
 written_writing [] = refl
 written_writing (octets ∷ written) = ap (λ (ps : List (List ℕ)). octets ∷ ps) (written_writing written)
 
+come_all : (told : List Event) (written : List (List ℕ)) → come_in (telling told ++ writing written) ≡ []
+come_all told written =
+    come_both (telling told) (writing written)
+    ∙ (ap (λ (ps : List (List ℕ)). ps ++ come_in (writing written)) (come_telling told) ∙ come_writing written)
+
+written_all : (told : List Event) (written : List (List ℕ)) → written_in (telling told ++ writing written) ≡ written
+written_all told written =
+    written_both (telling told) (writing written)
+    ∙ (ap (λ (ps : List (List ℕ)). ps ++ written_in (writing written)) (written_telling told) ∙ written_writing written)
+
+-- where nothing comes, what is told stands before what is written
+pub parted_is : (told : List Event) (written : List (List ℕ))
+    → parted (telling told ++ writing written) ≡ telling told ++ writing written
+parted_is told written =
+    let log = telling told ++ writing written in
+    ap (λ (ps : List (List ℕ)). coming ps ++ (telling (told_in log) ++ writing (written_in log)))
+    (come_all told written)
+    ∙ (ap (λ (es : List Event). telling es ++ writing (written_in log)) (said_all told written)
+    ∙ ap (λ (ps : List (List ℕ)). telling told ++ writing ps) (written_all told written))
+
 -- ---- of calls of a bearer
 
-abbrev come_by : List BearerCall → List (List ℕ)
+abbrev pub come_by : List BearerCall → List (List ℕ)
 come_by [] = []
 come_by (Arrives pdu ∷ cs) = pdu ∷ come_by cs
 come_by (Submits sdu ∷ cs) = come_by cs
@@ -98,17 +118,12 @@ abbrev written_over : Flow → List BearerCall → List (List ℕ)
 written_over f [] = []
 written_over f (c ∷ cs) = written_now f c ++ written_over (called f c) cs
 
-told_logs : (l : ℕ) (cs : List BearerCall) (f : Flow) → told_in (bearer_logs l f cs) ≡ tells_over l f cs
+pub told_logs : (l : ℕ) (cs : List BearerCall) (f : Flow) → told_in (bearer_logs l f cs) ≡ tells_over l f cs
 told_logs l [] f = refl
 told_logs l (c ∷ cs) f =
     said_both (bearer_log l f c) (bearer_logs l (called f c) cs)
     ∙ (ap (λ (es : List Event). es ++ told_in (bearer_logs l (called f c) cs)) (said_log l f c)
     ∙ ap (λ (es : List Event). tells_in l f c ++ es) (told_logs l cs (called f c)))
-
-come_all : (told : List Event) (written : List (List ℕ)) → come_in (telling told ++ writing written) ≡ []
-come_all told written =
-    come_both (telling told) (writing written)
-    ∙ (ap (λ (ps : List (List ℕ)). ps ++ come_in (writing written)) (come_telling told) ∙ come_writing written)
 
 come_log : (l : ℕ) (f : Flow) (c : BearerCall) (cs : List BearerCall)
     → come_in (bearer_log l f c) ++ come_by cs ≡ come_by (c ∷ cs)
@@ -122,7 +137,7 @@ come_log l f (Expires clock) cs =
 come_log l f Ticks cs = ap (λ (ps : List (List ℕ)). ps ++ come_by cs) (come_telling (tells_in l f Ticks))
 come_log l f (SetsDiscard ttis) cs = refl
 
-come_logs : (l : ℕ) (cs : List BearerCall) (f : Flow) → come_in (bearer_logs l f cs) ≡ come_by cs
+pub come_logs : (l : ℕ) (cs : List BearerCall) (f : Flow) → come_in (bearer_logs l f cs) ≡ come_by cs
 come_logs l [] f = refl
 come_logs l (c ∷ cs) f =
     come_both (bearer_log l f c) (bearer_logs l (called f c) cs)
@@ -131,11 +146,7 @@ come_logs l (c ∷ cs) f =
 
 written_log : (l : ℕ) (f : Flow) (c : BearerCall) → written_in (bearer_log l f c) ≡ written_now f c
 written_log l f (Submits sdu) = refl
-written_log l f (Takes share held) =
-    let told = tells_in l f (Takes share held) in
-    written_both (telling told) (writing (pdus f share held))
-    ∙ (ap (λ (ps : List (List ℕ)). ps ++ written_in (writing (pdus f share held))) (written_telling told)
-    ∙ written_writing (pdus f share held))
+written_log l f (Takes share held) = written_all (tells_in l f (Takes share held)) (pdus f share held)
 written_log l f (Arrives pdu) = written_telling (tells_in l f (Arrives pdu))
 written_log l f (Expires clock) = written_telling (tells_in l f (Expires clock))
 written_log l f Ticks = written_telling (tells_in l f Ticks)
@@ -251,7 +262,7 @@ alone l side f cs told are plain =
 
 -- ---- a block comes
 
-arrivals_come : (ps : List (List ℕ)) → come_by (map (λ p. Arrives p) ps) ≡ ps
+pub arrivals_come : (ps : List (List ℕ)) → come_by (map (λ p. Arrives p) ps) ≡ ps
 arrivals_come [] = refl
 arrivals_come (p ∷ ps) = ap (λ (qs : List (List ℕ)). p ∷ qs) (arrivals_come ps)
 

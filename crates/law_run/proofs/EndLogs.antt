@@ -3,7 +3,7 @@ use Rattle.std.proofs.Common.{◌++◌, append_assoc, ◌≡◌, ℕ, ◌-◌, �
 use Rattle.std.proofs.Common.{refl, ap, sym, subst, ◌∙◌}
 use Rattle.std.specs.List.{AllByRecursion}
 use Rattle.bearer.specs.Acknowledged.State.{State}
-use Rattle.bearer.specs.Acknowledged.Taking.{writes_status, status_pdu}
+use Rattle.bearer.specs.Acknowledged.Taking.{writes_status, status_pdu, status_pdus}
 use Rattle.bearer.specs.declared.flow.Flow.{Flow}
 use Rattle.bearer.specs.declared.flow.Flow.TheVariants.{Am}
 use Rattle.bearer_types.specs.Sides.{heard_by}
@@ -39,35 +39,52 @@ use Rattle.law_run.proofs.OwnPdus.Ends.{in_life_stands, reaches, well_at}
 use Rattle.law_run.specs.TwoEnds.SenderLog.{ReadsAsStatus, GoesAlong, WritesStatuses, bearer_log, bearer_logs}
 use Rattle.law_run.specs.TwoEnds.SenderLog.{EndsGoAlong}
 use Rattle.law_run.proofs.OwnPdus.Bearers.{IsQuiet, quiet_only, quiet_submits, quiet_arrives}
-use Rattle.law_run.proofs.SenderLog.{along_both, calls_go_along}
+use Rattle.law_run.proofs.SenderLog.{OfCalls, IsMet, call_along, GoesBy, AsksNoMore, goes_both, goes_not, goes_along}
+use Rattle.law_run.proofs.SenderLog.{AnyCall, asks_none, written_met, along_deeds}
 
 -- ---- calls of a bearer
+
+abbrev pub AreMet : OfCalls → State → List BearerCall → Type 0
+AreMet Q b [] = Unit {0}
+AreMet Q b (c ∷ cs) = IsMet ReadsAsStatus Q b c × AreMet Q (called b c) cs
+
+pub record GoesTo (Q : OfCalls) (l : ℕ) (b : State) (cs : List BearerCall) : Type 0 where
+  pub bearer : State
+  pub is : after_all (Am b) cs ≡ Am bearer
+  pub along : GoesBy Q b.tx bearer.tx (bearer_logs l (Am b) cs)
+
+module _ (Q : OfCalls) (few : AsksNoMore Q) where
+  call_to : (l : ℕ) (b : State) (c : BearerCall) → IsMet ReadsAsStatus Q b c
+      → GoesBy Q b.tx (called b c).tx (bearer_log l (Am b) c)
+  call_to l b c m =
+      let x = call_along ReadsAsStatus Q (λ s es t. GoesBy Q s t es) (goes_along Q few) l b c m in
+      let same : Am x.bearer ≡ Am (called b c) = sym x.flow_is ∙ is_called b c in
+      let bearer : x.bearer ≡ called b c = cc in
+      subst (λ (y : State). GoesBy Q b.tx y.tx (bearer_log l (Am b) c)) bearer x.kept
+
+  pub all_along : (l : ℕ) (cs : List BearerCall) (b : State) → AreMet Q b cs → GoesTo Q l b cs
+  all_along l [] b m = record { bearer = b; is = refl; along = goes_not Q b.tx }
+  all_along l (c ∷ cs) b m =
+      let d = called b c in
+      let q : bearer_after (Am b) c ≡ Am d = is_called b c in
+      let rest = all_along l cs d m.1 in
+      record {
+        bearer = rest.bearer;
+        is = ap (λ (f : Flow). after_all f cs) q ∙ rest.is;
+        along = goes_both Q b.tx d.tx rest.bearer.tx (bearer_log l (Am b) c) (bearer_logs l (bearer_after (Am b) c) cs)
+            (call_to l b c m.0)
+            (subst (λ (f : Flow). GoesBy Q d.tx rest.bearer.tx (bearer_logs l f cs)) (sym q) rest.along);
+      }
+
+-- ---- the STATUS PDUs that they write
 
 abbrev AreWritten : State → List BearerCall → Type 0
 AreWritten b [] = Unit {0}
 AreWritten b (c ∷ cs) = WritesStatuses b c × AreWritten (called b c) cs
 
-record GoesTo (l : ℕ) (b : State) (cs : List BearerCall) : Type 0 where
-  bearer : State
-  is : after_all (Am b) cs ≡ Am bearer
-  along : GoesAlong b.tx bearer.tx (bearer_logs l (Am b) cs)
-
-all_along : (l : ℕ) (cs : List BearerCall) (b : State) → AreWritten b cs → GoesTo l b cs
-all_along l [] b w =
-    record { bearer = b; is = refl; along = record { deeds = []; are = tt; logged = refl; left = refl } }
-all_along l (c ∷ cs) b w =
-    let d = called b c in
-    let q : bearer_after (Am b) c ≡ Am d = is_called b c in
-    let rest = all_along l cs d w.1 in
-    record {
-      bearer = rest.bearer;
-      is = ap (λ (f : Flow). after_all f cs) q ∙ rest.is;
-      along = along_both b.tx d.tx rest.bearer.tx (bearer_log l (Am b) c) (bearer_logs l (bearer_after (Am b) c) cs)
-          (calls_go_along l b d c q w.0)
-          (subst (λ (f : Flow). GoesAlong d.tx rest.bearer.tx (bearer_logs l f cs)) (sym q) rest.along);
-    }
-
--- ---- the STATUS PDUs that they write
+all_met : (cs : List BearerCall) (b : State) → AreWritten b cs → AreMet AnyCall b cs
+all_met [] b w = tt
+all_met (c ∷ cs) b w = (written_met b c w.0, all_met cs (called b c) w.1)
 
 quiet_one : (b : State) (c : BearerCall) → IsQuiet c → WritesStatuses b c
 quiet_one b (Submits sdu) q = tt
@@ -87,12 +104,13 @@ one_written true octets h = (h, tt)
 one_written false octets h = tt
 
 module _ (lcid : ℕ) (b : State) (w : WritesWell lcid (Am b)) where
+  pub reports_written : (share : ℕ) → AllByRecursion ReadsAsStatus (status_pdus b.rx share)
+  reports_written share =
+      one_written (writes_status b.rx share) (status_pdu b.rx share)
+      (_, (report_reads b.rx (share - 3) (ack b.rx (share - 3)) w.ready.cells).read)
+
   takes_written : (here : Bool) (share : ℕ) (held : _) → AreWritten b (only here (Takes share held))
-  takes_written true share held = (
-    one_written (writes_status b.rx share) (status_pdu b.rx share)
-        (_, (report_reads b.rx (share - 3) (ack b.rx (share - 3)) w.ready.cells).read),
-    tt,
-  )
+  takes_written true share held = (reports_written share, tt)
   takes_written false share held = tt
 
   visit_written : (v : Visit) (t : Turn) (e : End) (l : ℕ) → AreWritten b (takes_of v t e l)
@@ -128,13 +146,15 @@ ends_go_along side maximum reports past c l b d given g life there is now =
     let w = subst (WritesWell (bearer_at r.bearers at).channel.lcid) is
     (at_is WritesWell r.bearers at ready_kept
     (reached_are WritesWell ready_kept side maximum reports past given)) in
-    let x = all_along l (calls_of l r c) b (call_written (bearer_at r.bearers at).channel.lcid b w l r c) in
+    let x = all_along AnyCall asks_none l (calls_of l r c) b
+    (all_met (calls_of l r c) b (call_written (bearer_at r.bearers at).channel.lcid b w l r c)) in
     let goes : flow l (after r c) ≡ Am x.bearer =
     calls_reach_bearers side maximum reports past c l given g life there
     ∙ (ap (λ (f : Flow). after_all f (calls_of l r c)) is ∙ x.is) in
     let same : Am x.bearer ≡ Am d = sym goes ∙ now in
     let bearer : x.bearer ≡ d = cc in
-    subst (λ (y : State). GoesAlong b.tx y.tx (bearer_logs l (Am b) (calls_of l r c))) bearer x.along
+    subst (λ (y : State). GoesAlong b.tx y.tx (bearer_logs l (Am b) (calls_of l r c))) bearer
+    (along_deeds AnyCall b.tx x.bearer.tx (bearer_logs l (Am b) (calls_of l r c)) x.along)
 
 -- ---- many calls of an end in a life
 
@@ -150,24 +170,25 @@ all_then : (xs ys : List BearerCall) (f : Flow) → after_all f (xs ++ ys) ≡ a
 all_then [] ys f = refl
 all_then (x ∷ xs) ys f = all_then xs ys (bearer_after f x)
 
-goes_then : (l : ℕ) (b : State) (xs ys : List BearerCall) (x : GoesTo l b xs) → GoesTo l x.bearer ys
-    → GoesTo l b (xs ++ ys)
+goes_then : (l : ℕ) (b : State) (xs ys : List BearerCall) (x : GoesTo AnyCall l b xs) → GoesTo AnyCall l x.bearer ys
+    → GoesTo AnyCall l b (xs ++ ys)
 goes_then l b xs ys x y = record {
   bearer = y.bearer;
   is = all_then xs ys (Am b) ∙ (ap (λ (f : Flow). after_all f ys) x.is ∙ y.is);
-  along = subst (λ (es : List BearerEntry). GoesAlong b.tx y.bearer.tx es)
+  along = subst (λ (es : List BearerEntry). GoesBy AnyCall b.tx y.bearer.tx es)
       (sym (logs_then l xs ys (Am b)
       ∙ ap (λ (f : Flow). bearer_logs l (Am b) xs ++ bearer_logs l f ys) x.is))
-      (along_both b.tx x.bearer.tx y.bearer.tx (bearer_logs l (Am b) xs) (bearer_logs l (Am x.bearer) ys) x.along
+      (goes_both AnyCall b.tx x.bearer.tx y.bearer.tx (bearer_logs l (Am b) xs) (bearer_logs l (Am x.bearer) ys) x.along
       y.along);
 }
 
 over : (side : Side) (l : ℕ) (cs : List Call) (e : End) (b : State) → Stands side l e → AreGiven cs
-    → AllByRecursion (GoesOnInLife l) cs → flow l e ≡ Am b → GoesTo l b (calls_over l cs e)
-over side l [] e b s g life is = all_along l [] b tt
+    → AllByRecursion (GoesOnInLife l) cs → flow l e ≡ Am b → GoesTo AnyCall l b (calls_over l cs e)
+over side l [] e b s g life is = all_along AnyCall asks_none l [] b tt
 over side l (c ∷ cs) e b s g life is =
     let w = well_at side l e b s is in
-    let x = all_along l (calls_of l e c) b (call_written w.0 b w.1 l e c) in
+    let x = all_along AnyCall asks_none l (calls_of l e c) b
+    (all_met (calls_of l e c) b (call_written w.0 b w.1 l e c)) in
     let now : flow l (after e c) ≡ Am x.bearer = reaches side l e c b s life.0 is ∙ x.is in
     goes_then l b (calls_of l e c) (calls_over l cs (after e c)) x
     (over side l cs (after e c) x.bearer (in_life_stands side l e c s g.0 life.0) g.1 life.1 now)
@@ -181,4 +202,5 @@ ends_go_along_over side maximum reports past cs l b d given new g life there is 
     ∙ (ap (λ (f : Flow). after_all f (calls_over l cs r)) is ∙ x.is) in
     let same : Am x.bearer ≡ Am d = sym goes ∙ now in
     let bearer : x.bearer ≡ d = cc in
-    subst (λ (y : State). GoesAlong b.tx y.tx (bearer_logs l (Am b) (calls_over l cs r))) bearer x.along
+    subst (λ (y : State). GoesAlong b.tx y.tx (bearer_logs l (Am b) (calls_over l cs r))) bearer
+    (along_deeds AnyCall b.tx x.bearer.tx (bearer_logs l (Am b) (calls_over l cs r)) x.along)

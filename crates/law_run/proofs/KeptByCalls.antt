@@ -23,7 +23,7 @@ use Rattle.rlc_pdu.specs.Pdus.{StatusPdu}
 use Rattle.law_run.specs.TwoEnds.SenderLog.{BearerEntry, Tells, Writes, Comes, telling, writing, bearer_log, read_told}
 use Rattle.law_run.specs.TwoEnds.ChannelLog.{told_in}
 use Rattle.law_run.proofs.Quiet.{tell_sender}
-use Rattle.law_run.proofs.SenderLog.{IsKeptAlong, IsMet, call_along}
+use Rattle.law_run.proofs.SenderLog.{IsKeptAlong, AnyCall, any_met, call_along}
 use Rattle.law_run.proofs.Still.{flow_so, taking_still, started_still}
 
 pub record Seen : Type 0 where
@@ -79,7 +79,7 @@ pub said_writing : (written : List (List ℕ)) → told_in (writing written) ≡
 said_writing [] = refl
 said_writing (octets ∷ written) = said_writing written
 
-said_all : (told : List Event) (written : List (List ℕ)) → told_in (telling told ++ writing written) ≡ told
+pub said_all : (told : List Event) (written : List (List ℕ)) → told_in (telling told ++ writing written) ≡ told
 said_all told written =
     said_both (telling told) (writing written)
     ∙ (ap (λ (es : List Event). es ++ told_in (writing written)) (said_telling told)
@@ -98,20 +98,9 @@ said_log l f (SetDiscard ttis) = refl
 abbrev AnyOctets : List ℕ → Type 0
 AnyOctets octets = Unit {0}
 
-abbrev AnyStatus : Sender → StatusPdu → Type 0
-AnyStatus s p = Unit {0}
-
 any_octets : (xs : List (List ℕ)) → AllByRecursion AnyOctets xs
 any_octets [] = tt
 any_octets (x ∷ xs) = (tt, any_octets xs)
-
-met : (b : State) (c : BearerCall) → IsMet AnyOctets AnyStatus b c
-met b (Submit sdu) = tt
-met b (Take share held) = any_octets (status_pdus b.rx share)
-met b (Arrive pdu) = λ p e. tt
-met b (Expire clock) = tt
-met b Tick = tt
-met b (SetDiscard ttis) = tt
 
 module _ (R : Seen → List Event → Seen → Type 0) (k : IsKept R) where
   abbrev Along : Sender → List BearerEntry → Sender → Type 0
@@ -124,18 +113,18 @@ module _ (R : Seen → List Event → Seen → Type 0) (k : IsKept R) where
       subst (λ (es : List Event). R (seen s) es (seen t)) (sym (said_telling told))
       (subst (λ (v : Seen). R (seen s) told v) (sym same) (k.still (seen s) told quiet))
 
-  kept_along : IsKeptAlong AnyOctets AnyStatus Along
+  kept_along : IsKeptAlong AnyOctets AnyCall Along
   kept_along = record {
     still = λ s told quiet. still_along s s told refl (flow_so told quiet);
     both = λ a b c xs ys p q. subst (λ (es : List Event). R (seen a) es (seen c)) (sym (said_both xs ys))
         (k.both (seen a) (seen b) (seen c) (told_in xs) (told_in ys) p q);
-    offers = λ e s. still_along s (given_to (taken e) s) (taking_told e) (given_seen (taken e) s) (taking_still e);
-    sends = λ lcid s size held more reports well.
+    offers = λ e s g. still_along s (given_to (taken e) s) (taking_told e) (given_seen (taken e) s) (taking_still e);
+    sends = λ lcid s size held more reports well g.
         subst (λ (es : List Event). R (seen s) es (seen (after_take s size held more)))
         (sym (said_all (data_told lcid (rlc_answer s size held more))
         (reports ++ pdus_of (rlc_answer s size held more)))) (k.sends lcid s size held more);
     passes = λ s pdu no. k.still (seen s) [] refl;
-    reads = λ lcid s pdu p e any.
+    reads = λ lcid s pdu p e g.
         subst (λ (es : List Event). R (seen s) es (seen (after_status s p)))
         (sym (said_telling (read_told lcid (heard s p)))) (k.reads lcid s p);
     confirms = λ s. k.still (seen s) [] refl;
@@ -144,14 +133,15 @@ module _ (R : Seen → List Event → Seen → Type 0) (k : IsKept R) where
         still_along s (settled_by starts s) (started_told lcid starts) (settled_seen starts s)
         (started_still lcid starts);
     counts = λ s. k.still (seen s) [] refl;
-    expires = λ lcid s more.
+    expires = λ lcid s more g.
         subst (λ (es : List Event). R (seen s) es (seen (after_poll s more)))
         (sym (said_telling (told_of (poll_told lcid (poll_expiry s more))))) (k.expires lcid s more);
   }
 
   pub call_kept : (l : ℕ) (b : State) (c : BearerCall) → Carries R b (tells_in l (Am b) c) (called (Am b) c)
   call_kept l b c =
-      let x = call_along AnyOctets AnyStatus Along kept_along l b c (met b c) in
+      let x = call_along AnyOctets AnyCall Along kept_along l b c
+      (any_met AnyOctets b c (λ share held e. any_octets (status_pdus b.rx share))) in
       record {
         bearer = x.bearer;
         flow_is = x.flow_is;

@@ -56,6 +56,9 @@ pub mod Losses
 pub mod Silent
 pub mod OwnPdus
 pub mod EndLogs
+pub mod OwnReports
+pub mod AskedCalls
+pub mod OrderedLogs
 pub mod ChannelLogs
 pub mod WaitingSdus
 pub mod Numbered

@@ -64,6 +64,7 @@ sender_so : (e : Event) → is_of_flow e ≡ false → is_of_sender e ≡ false
 sender_so (events.Take lcid count len) h = refl
 sender_so (events.Report lcid fms bitmap) h = refl
 sender_so (events.Expired lcid Poll) h = refl
+sender_so (events.Drop lcid lost.Ignored) h = refl
 sender_so e h = h
 
 -- then nothing of the sender

@@ -9,7 +9,6 @@ use Rattle.bearer.specs.declared.flow.Flow.TheVariants.{Am}
 use Rattle.bearer_types.specs.Sides.{sent_by}
 use Rattle.harq.specs.declared.sender.Order.{Order}
 use Rattle.harq.specs.declared.sender.Visit.{Visit}
-use Rattle.harq.specs.declared.sender.Visit.TheVariants.{New, Resend, Silent}
 use Rattle.l2_node.specs.Building.{visit, visited}
 use Rattle.l2_node.specs.End.{End}
 use Rattle.l2_node.specs.Writing.{new_block}
@@ -23,12 +22,14 @@ use Rattle.law_rlc.specs.AmPair.Given.{AreGiven as AreGivenSteps}
 use Rattle.law_deliver.specs.AmFlow.Air.{Block, Station, Air, Act, AtNb, AtUe, Passes, Step, built_at, comes, does}
 use Rattle.law_deliver.specs.AmFlow.Air.{older, happens, goes, outset, IsBuilding, IsVisiting, IsDone, IsGiven}
 use Rattle.law_deliver.specs.AmFlow.Air.{AreGiven, Begins}
+use Rattle.law_deliver.specs.AmFlow.Channels.{share_of, held_of}
 use Rattle.law_deliver.specs.AmFlow.Pair.{BearerEnd}
 use Rattle.law_deliver.proofs.AmFlow.Acts.{act_by}
 use Rattle.law_deliver.proofs.AmFlow.Air.{both_match}
 use Rattle.law_deliver.proofs.AmFlow.Flows.{bearers_are_flows}
 use Rattle.law_deliver.proofs.AmFlow.Loads.{except_all}
 use Rattle.law_deliver.proofs.AmFlow.Stations.{Matches}
+use Rattle.law_deliver.proofs.AmFlow.Turns.{visit_by}
 use Rattle.law_deliver.proofs.AmFlow.Visiting.{carries_so}
 use Rattle.law_sound.specs.AirHearing.{HasOneOn, BringOneData, BlocksBringOneData}
 use Rattle.law_sound.specs.HearingLaws.{HasOneData}
@@ -44,26 +45,29 @@ record HearsFlow (b : State) : Type 0 where
   given : AreGivenSteps (am_rlc_outset sending receiving) steps
   here : (receiver (flow_goes steps (am_rlc_outset sending receiving))).state ≡ b.rx
 
-one_if : (due : Bool) (f : Bearer) (share : ℕ) (held : Option ℕ) (b : State) → f ≡ Am b → HearsFlow b
-    → HasOneData (if due then pdus f share held else [])
-one_if true f share held b q h =
-    subst (λ (x : Bearer). HasOneData (pdus x share held)) (sym q)
-    (bearers_write_one h.sending h.receiving h.steps h.given share held b (sym h.here))
-one_if false f share held b q h =
-    record { before = []; behind = []; are = refl; none = tt; one = omega arith }
+-- what holds of nothing, and of what a bearer writes, holds of what a channel has
+written_if : (P : List (List ℕ) → Type 0) (due : Bool) (f : Bearer) (share : ℕ) (held : Option ℕ) (b : State)
+    → f ≡ Am b → P [] → P (pdus (Am b) share held) → P (if due then pdus f share held else [])
+written_if P true f share held b q none wrote = subst (λ (x : Bearer). P (pdus x share held)) (sym q) wrote
+written_if P false f share held b q none wrote = none
 
-visit_by : (P : Visit → Type 0) (v : Visit) → (v ≡ New → P New) → ((rv : ℕ) → P (Resend rv)) → P Silent → P v
-visit_by P New new again none = new refl
-visit_by P (Resend rv) new again none = again rv
-visit_by P Silent new again none = none
+module _ (side : Side) (l : ℕ) (s : Station) (n : BearerEnd) (m : Matches side l s n) where
+  -- so of what a new block carries
+  pub new_by : (P : List (List ℕ) → Type 0) (tti : ℕ) (order : Order) (grant : ℕ) → 1 ≤ grant → grant ≤ 9422 → P []
+      → P (pdus (Am n.bearer) (share_of (visited tti order s.end) grant l) (held_of (visited tti order s.end) l))
+      → P (carried l (sent_by side) (new_block (visited tti order s.end) grant))
+  unfolding visited
+  new_by P tti order grant some most none wrote =
+      subst P (sym (carries_so side s.end m.come tti order grant l some most m.there))
+      (written_if P _ _ _ _ n.bearer m.bearer_is none wrote)
 
 module _ (side : Side) (l : ℕ) (s : Station) (n : BearerEnd) (m : Matches side l s n) (h : HearsFlow n.bearer) where
   new_one : (tti : ℕ) (order : Order) (grant : ℕ) → 1 ≤ grant → grant ≤ 9422
       → HasOneData (carried l (sent_by side) (new_block (visited tti order s.end) grant))
-  unfolding visited
   new_one tti order grant some most =
-      subst HasOneData (sym (carries_so side s.end m.come tti order grant l some most m.there))
-      (one_if _ _ _ _ n.bearer m.bearer_is h)
+      new_by side l s n m HasOneData tti order grant some most
+      (record { before = []; behind = []; are = refl; none = tt; one = omega arith })
+      (bearers_write_one h.sending h.receiving h.steps h.given _ _ n.bearer (sym h.here))
 
   -- ---- an act
 
@@ -89,11 +93,11 @@ older_one l side (b ∷ bs) h = (h.0, older_one l side bs h.1)
 
 -- ---- any steps
 
-goes_last : (xs : List Step) (s : Step) (a : Air) → goes (xs ++ s ∷ []) a ≡ happens (goes xs a) s
+pub goes_last : (xs : List Step) (s : Step) (a : Air) → goes (xs ++ s ∷ []) a ≡ happens (goes xs a) s
 goes_last [] s a = refl
 goes_last (x ∷ xs) s a = goes_last xs s (happens a x)
 
-given_last : (l : ℕ) (xs : List Step) (s : Step) (a : Air) → AreGiven l a xs → IsGiven l (goes xs a) s
+pub given_last : (l : ℕ) (xs : List Step) (s : Step) (a : Air) → AreGiven l a xs → IsGiven l (goes xs a) s
     → AreGiven l a (xs ++ s ∷ [])
 given_last l [] s a h g = (g, tt)
 given_last l (x ∷ xs) s a h g = (h.0, given_last l xs s (happens a x) h.1 g)
@@ -112,7 +116,7 @@ module _ (l : ℕ) (nb ue : End) (b d : State) (x : Begins Nb l nb b) (y : Begin
           let p = both_match l nb ue b d so_far x y given in
           let f = bearers_are_flows b d p.steps x.life y.life p.given in
           record {
-            by_nb = act_one Nb l a.nb _ p.nb (record {
+            by_nb = act_one Nb l a.nb _ p.nb.matches (record {
               sending = d.tx_config;
               receiving = b.rx_config;
               steps = f.back.steps;
@@ -126,7 +130,7 @@ module _ (l : ℕ) (nb ue : End) (b d : State) (x : Begins Nb l nb b) (y : Begin
           let f = bearers_are_flows b d p.steps x.life y.life p.given in
           record {
             by_nb = h.by_nb;
-            by_ue = act_one Ue l a.ue _ p.ue (record {
+            by_ue = act_one Ue l a.ue _ p.ue.matches (record {
               sending = b.tx_config;
               receiving = d.rx_config;
               steps = f.there.steps;

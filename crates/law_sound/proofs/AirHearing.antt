@@ -42,7 +42,7 @@ module _ (l : ℕ) (side oside : Side) (sending other_sending : AmTxConfig) (rec
     (from to : Station) (out : IsFlowOn l sending receiving from.end to.end)
     (back : IsFlowOn l other_sending other_receiving to.end from.end) where
   -- the bearer that hears takes the PDUs of the channel
-  arrives : (n : BearerEnd) (block : Block) → heard_by side ≡ sent_by oside → Matches side l to n
+  pub arrives : (n : BearerEnd) (block : Block) → heard_by side ≡ sent_by oside → Matches side l to n
       → (behind : IsFlowOn l sending receiving from.end (comes to (Some block)).end)
       → after_all (Am out.to_bearer) (arrivals (carried l (sent_by oside) block.octets)) ≡ Am behind.to_bearer
   arrives n block dir m behind =
@@ -84,7 +84,7 @@ ends_hear_by_air l nb ue b d steps x y given h =
     let ones = blocks_bring_one l nb ue b d steps x y given in
     record {
       at_ue = hears_blocks l Ue Nb b.tx_config d.tx_config d.rx_config b.rx_config a.nb a.ue h.flows.down h.flows.up
-          _ refl p.ue h.by_nb ones.by_nb;
+          _ refl p.ue.matches h.by_nb ones.by_nb;
       at_nb = hears_blocks l Nb Ue d.tx_config b.tx_config b.rx_config d.rx_config a.ue a.nb h.flows.up h.flows.down
-          _ refl p.nb h.by_ue ones.by_ue;
+          _ refl p.nb.matches h.by_ue ones.by_ue;
     }

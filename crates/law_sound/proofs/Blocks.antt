@@ -45,7 +45,8 @@ use Rattle.law_sound.proofs.Numbering.{own_last, behind_all}
 use Rattle.law_sound.proofs.Telling.{flow, IsApart, apart_all, told_own}
 use Rattle.law_sound.proofs.Loading.{pdus_of, data_by, data_of, spans, IsSpan, AreSpans, IsNear, AreNear, IsLoaded}
 use Rattle.law_sound.proofs.Loading.{IsBehind}
-use Rattle.law_sound.proofs.Loading.{name_of, written, none_more, read_pdu, none_written, else_in, else_loaded}
+use Rattle.law_sound.specs.LoadLaws.{name_of}
+use Rattle.law_sound.proofs.Loading.{written, none_more, read_pdu, none_written, else_in, else_loaded}
 
 -- ---- the PDUs of a channel in a block
 

@@ -16,11 +16,11 @@ use Rattle.law_deliver.proofs.AmFlow.Loads.{all_at}
 use Rattle.law_sound.specs.HearingLaws.{IsNoData, octets_of, NoData, OneData, HasOneData, HasBrought, UnderWayBrings}
 
 -- a data PDU that is under way is read as one
-record IsRead (octets : List ℕ) : Type 0 where
-  pdu : AmdPdu
-  read : am_at octets ≡ Ok (Payload pdu)
+pub record IsRead (octets : List ℕ) : Type 0 where
+  pub pdu : AmdPdu
+  pub read : am_at octets ≡ Ok (Payload pdu)
 
-copy_read : (f : Flow) (c : Copy) → IsSound f → IsTrueCopy (sender f).past.sent c → IsRead c.octets
+pub copy_read : (f : Flow) (c : Copy) → IsSound f → IsTrueCopy (sender f).past.sent c → IsRead c.octets
 copy_read f c h q =
     let ps : List Place = slice_index_or (sender f).past.sent c.number [] in
     record {
@@ -28,7 +28,7 @@ copy_read f c h q =
       read = ap am_at q.is ∙ stretch-read c.number q.poll ps q.from q.to (h.aired c.number q.known) q.some q.within;
     }
 
-report_read : (g : Flow) (r : Report) (place : ℕ) → IsSound g → slice_get g.reports place ≡ Some r
+pub report_read : (g : Flow) (r : Report) (place : ℕ) → IsSound g → slice_get g.reports place ≡ Some r
     → IsNoData r.octets
 report_read g r place h at pdu read =
     let t = all_at _ g.reports place r h.reports at in

@@ -36,7 +36,7 @@ use Rattle.law_sound.proofs.Telling.{told_own}
 
 -- ---- an event
 
-own_running : (side : Side) (l : ℕ) (e : LifeEvent) (h : Histories)
+pub own_running : (side : Side) (l : ℕ) (e : LifeEvent) (h : Histories)
     → is_possible (next_of (running (h.acked side l))) e ≡ true
     → running ((all_told histories (told side l e) h).acked side l) ≡ running (e ∷ h.acked side l)
 own_running side l e h possible = ap (λ (es : List LifeEvent). running es) (told_own side l e h possible)
@@ -64,7 +64,7 @@ report_gathered (pdcp.Am bits) side l fms bitmap more h =
     own_running side l (PduGiven None ((if bits == 12 then 2 else 3) + length bitmap)) h refl
 
 -- t-Reordering is of the flow that comes
-other_stays : (side : Side) (l : ℕ) (e : FlowEvent) (h : Histories)
+pub other_stays : (side : Side) (l : ℕ) (e : FlowEvent) (h : Histories)
     → (all_told histories (told_in (other side) l e) h).acked side l ≡ h.acked side l
 other_stays Nb l e h = refl
 other_stays Ue l e h = refl

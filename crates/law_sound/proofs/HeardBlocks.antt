@@ -1,17 +1,14 @@
 -- An acknowledged bearer goes along the history of its flow as a block comes.
-use Rattle.std.proofs.Common.{◌≡◌, ℕ, Bool, true, false, List, [], ◌∷◌, ◌++◌, Some, slice_get, Result, Ok, Err, refl}
+use Rattle.std.proofs.Common.{◌≡◌, ℕ, List, [], ◌∷◌, ◌++◌, Some, slice_get, Result, Ok, Err, refl}
 use Rattle.std.proofs.Common.{ap, sym, subst, ◌∙◌, append-nil}
-use Rattle.std.proofs.lemmas.Grind.{flat_map-append}
 use Rattle.std.specs.List.{AllByRecursion}
 use Rattle.rlc_pdu.specs.declared.fault.RlcRefusal.{RlcRefusal}
 use Rattle.rlc_pdu.specs.Pdus.{AcknowledgedPdu, AmdPdu, Payload, Status as Control}
 use Rattle.rlc_pdu.specs.Reading.{am_at}
-use Rattle.rlc_am_tx.specs.declared.answers.Heard.{Heard}
-use Rattle.rlc_am_tx.specs.declared.answers.Heard.TheVariants as heard_as
-use Rattle.rlc_am_tx.specs.Machine.{State as Sender, heard, after_status, settles}
-use Rattle.bearer.specs.Acknowledged.Hearing.{arrived_left, arrived_told, after_arrival, arriving, status_work}
-use Rattle.bearer.specs.Acknowledged.Hearing.{started_told, stopped_told, confirms, all_confirmed}
-use Rattle.bearer.specs.Acknowledged.State.{State, Work, work, has_more}
+use Rattle.rlc_am_tx.specs.Machine.{State as Sender, heard, after_status}
+use Rattle.bearer.specs.Acknowledged.Hearing.{arrived_left, arrived_told, after_arrival, arriving, confirms}
+use Rattle.bearer.specs.Acknowledged.Hearing.{all_confirmed}
+use Rattle.bearer.specs.Acknowledged.State.{State, work}
 use Rattle.bearer.specs.Hearing.{arrived as any_arrived, arriving as any_arriving}
 use Rattle.bearer.specs.declared.flow.Flow.{Flow as Bearer}
 use Rattle.bearer.specs.declared.flow.Flow.TheVariants.{Am}
@@ -20,8 +17,9 @@ use Rattle.journal_account.specs.FlowEvents.{FlowEvent}
 use Rattle.law_rlc.specs.AmPair.Flow.{Copy, Flow, sender, goes, am_rlc_outset}
 use Rattle.law_bearer.specs.AnyBearer.Calls.{Arrive, after, after_all}
 use Rattle.law_deliver.specs.AmFlow.Pair.{called}
-use Rattle.law_deliver.specs.AmFlow.Reordering.{Reordering, reordering_told, reordering_in}
+use Rattle.law_deliver.specs.AmFlow.Reordering.{Reordering, reordering_in}
 use Rattle.law_deliver.specs.AmFlow.Ups.{tells_in, tells_over}
+use Rattle.law_deliver.proofs.AmFlow.Reordering.{in_both, control_silent}
 use Rattle.law_deliver.proofs.AmFlow.Sending.{is_called}
 use Rattle.law_account.specs.EndsTold.{AreEndsOf}
 use Rattle.law_sound.specs.HearingLaws.{with_reordering, IsNoData, octets_of, Brings, NoData, OneData, arrivals}
@@ -42,31 +40,12 @@ unfolding any_arrived after_arrival
 left_as octets b none = left_by (am_at octets) b none
 
 -- and nothing is told of t-Reordering
-clocks_silent : (lcid : ℕ) (stopped starts : Bool)
-    → reordering_in (stopped_told lcid stopped ++ started_told lcid starts) ≡ []
-clocks_silent lcid true true = refl
-clocks_silent lcid true false = refl
-clocks_silent lcid false true = refl
-clocks_silent lcid false false = refl
-
-status_silent : (h : Heard) (w : Work) → w.events ≡ [] → reordering_in (status_work h w).events ≡ []
-status_silent heard_as.Ignored w e =
-    ap (λ (xs : List Event).
-    reordering_in (xs ++ (status_work heard_as.Ignored (record w { events = [] })).events)) e
-status_silent (heard_as.Limit sn) w e =
-    ap (λ (xs : List Event).
-    reordering_in (xs ++ (status_work (heard_as.Limit sn) (record w { events = [] })).events)) e
-status_silent (heard_as.Applied stopped) w e =
-    ap (λ (xs : List Event). reordering_in ((xs ++ stopped_told w.pdcp.lcid stopped)
-    ++ started_told w.pdcp.lcid (settles w.tx (has_more w.pdcp)))) e
-    ∙ clocks_silent w.pdcp.lcid stopped (settles w.tx (has_more w.pdcp))
-
 silent_by : (x : Result AcknowledgedPdu RlcRefusal) (b : State) → ((pdu : AmdPdu) → x ≡ Ok (Payload pdu) → ⊥)
     → reordering_in (arrived_told x b) ≡ []
 silent_by (Ok (Payload pdu)) b none = absurd (none pdu refl)
 silent_by (Ok (Control pdu)) b none =
-    status_silent (heard b.tx pdu)
-    (work (confirms (after_status b.tx pdu).accounts.news b.pdcp) (all_confirmed (after_status b.tx pdu)) []) refl
+    control_silent (heard b.tx pdu)
+    (work (confirms (after_status b.tx pdu).accounts.news b.pdcp) (all_confirmed (after_status b.tx pdu)) [])
 silent_by (Err refused) b none = refl
 
 silent_as : (l : ℕ) (octets : List ℕ) (b : State) → IsNoData octets
@@ -80,9 +59,6 @@ record IsHeardTo (most l : ℕ) (es : List FlowEvent) (tx : Sender) (b : State) 
   bearer : State
   is : after_all (Am b) (arrivals pdus) ≡ Am bearer
   ends : AreEndsOf most (with_reordering (reordering_in (tells_over l (Am b) (arrivals pdus))) es) tx bearer.rx
-
-in_both : (xs ys : List Event) → reordering_in (xs ++ ys) ≡ reordering_in xs ++ reordering_in ys
-in_both xs ys = flat_map-append reordering_told xs ys
 
 behind_silent : (l : ℕ) (b d : State) (octets : List ℕ) (pdus : List (List ℕ)) → IsNoData octets
     → after (Am b) (Arrive octets) ≡ Am d

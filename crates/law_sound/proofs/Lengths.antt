@@ -1,13 +1,13 @@
 -- A PDU of PDCP is as long as the record says that tells of it.
 use Rattle.std.proofs.Common.{◌≡◌, ◌≢◌, ℕ, ◌+◌, ◌*◌, ◌/◌, ◌%◌, ◌^◌, ◌==◌, Bool, true, false, if◌then◌else◌, List, []}
-use Rattle.std.proofs.Common.{◌∷◌}
+use Rattle.std.proofs.Common.{◌∷◌, ◌++◌}
 use Rattle.std.proofs.Common.{length, Option, Some, None, Result, Ok, Err, refl, ap, sym, subst, ◌∙◌, arith}
 use Rattle.std.proofs.Common.{option_map, slice_get, length-append}
 use Rattle.std.proofs.lemmas.Bool.Decides.{nat_tests}
 use Rattle.pdcp_pdu.specs.declared.pdu.PdcpKind.{PdcpKind}
-use Rattle.pdcp_pdu.specs.declared.pdu.PdcpKind.TheVariants.{Am}
+use Rattle.pdcp_pdu.specs.declared.pdu.PdcpKind.TheVariants.{Srb, Um, Am}
 use Rattle.pdcp_pdu.specs.declared.pdu.PdcpRefusal.{PdcpRefusal}
-use Rattle.pdcp_pdu.specs.Grammar.{data_header}
+use Rattle.pdcp_pdu.specs.Grammar.{data_header, srb_header}
 use Rattle.pdcp_pdu.specs.Pdus.{UserPdu, Sdu, Report}
 use Rattle.pdcp_pdu.specs.Reading.{user_at, sdu_at, short_user, middle_user, long_user, long_report}
 use Rattle.pdcp_pdu.specs.Reading.{refused}
@@ -15,14 +15,15 @@ use Rattle.pdcp_pdu.specs.declared.pdu.PdcpWhy.TheVariants.{ReservedType}
 use Rattle.pdcp_pdu.specs.Refusals.{is_data, has_report_type}
 use Rattle.pdcp_sec.specs.Protection.{Protection, ciphered_with}
 use Rattle.pdcp_sec.proofs.Lengths.{length_ciphered_with}
-use Rattle.pdcp_tx.specs.Pdus.{pdu}
+use Rattle.pdcp_tx.specs.Pdus.{pdu, mac_i}
 use Rattle.pdcp_tx.specs.State.{Offer, offers, taking, written}
 use Rattle.bearer_pdcp.specs.Taking.{taken, taking_told, next_told, report_told}
 use Rattle.bearer_types.specs.declared.event.Event.{Event}
 use Rattle.bearer_types.specs.declared.event.Event.TheVariants as events
 use Rattle.journal_account.specs.FlowEvents.{SduTaken}
-use Rattle.law_sound.specs.LogLaws.{event_told}
-use Rattle.law_sound.specs.SduLaws.{TakenAreTold}
+use Rattle.law_run.proofs.OwnReports.{tag_length}
+use Rattle.law_sound.specs.LogLaws.{event_told, sdu_size}
+use Rattle.law_sound.specs.SduLaws.{IsAcknowledged, TakenAreTold}
 
 -- ---- an SDU
 
@@ -39,10 +40,16 @@ header_two bits sn wide = by (bits == 7) (bits == 12) is
     by false true e = refl
     by false false e = refl
 
-pdu_size : (bits : ℕ) (p : Protection) (count : ℕ) (sdu : List ℕ) → bits ≢ 7
-    → length (pdu (Am bits) p count sdu) ≡ length sdu + 2
+pdu_size : (kind : PdcpKind) (p : Protection) (count : ℕ) (sdu : List ℕ) → IsAcknowledged kind
+    → length (pdu kind p count sdu) ≡ sdu_size kind (length sdu)
 unfolding pdu
-pdu_size bits p count sdu wide =
+pdu_size Srb p count sdu of-signalling =
+    let body = sdu ++ mac_i p count sdu in
+    let a = length-append (srb_header 0 (count % 32)) (ciphered_with p count body) in
+    let b = length-append sdu (mac_i p count sdu) in
+    omega (arith, a, b, length_ciphered_with p count body, tag_length p count sdu)
+pdu_size (Um bits) p count sdu none = absurd none
+pdu_size (Am bits) p count sdu wide =
     let a = length-append (data_header bits 0 (count % 2 ^ bits)) (ciphered_with p count sdu) in
     omega (arith, a, header_two bits (count % 2 ^ bits) wide, length_ciphered_with p count sdu)
 
@@ -109,30 +116,32 @@ report_is bits lcid octets event (Ok (Report fms bitmap)) s e =
 
 -- ---- what is taken
 
-next_is_told : (bits lcid : ℕ) (p : Protection) (count : Option ℕ) (text : List ℕ) (event : Event) → bits ≢ 7
-    → next_told lcid (Am bits) (Some (written (Am bits) p count text)) ≡ event ∷ []
-    → event_told (Am bits) false event ≡ Some (SduTaken (length (written (Am bits) p count text).octets))
-next_is_told bits lcid p None text event wide e =
+next_is_told : (kind : PdcpKind) (lcid : ℕ) (p : Protection) (count : Option ℕ) (text : List ℕ) (event : Event)
+    → IsAcknowledged kind → next_told lcid kind (Some (written kind p count text)) ≡ event ∷ []
+    → event_told kind false event ≡ Some (SduTaken (length (written kind p count text).octets))
+next_is_told Srb lcid p None text event a e = cc
+next_is_told (Um bits) lcid p None text event a e = absurd a
+next_is_told (Am bits) lcid p None text event wide e =
     report_is bits lcid text event (user_at bits text) (user_sized bits text wide) e
-next_is_told bits lcid p (Some count) text event wide e =
+next_is_told kind lcid p (Some count) text event a e =
     let is : event ≡ events.Take lcid (Some count) (length text) = cc in
-    ap (event_told (Am bits) false) is ∙ ap (λ (n : ℕ). Some (SduTaken n)) (sym (pdu_size bits p count text wide))
+    ap (event_told kind false) is ∙ ap (λ (n : ℕ). Some (SduTaken n)) (sym (pdu_size kind p count text a))
 
-offer_told : (bits lcid : ℕ) (kind : PdcpKind) (p : Protection) (o : Option Offer) (sdu : List ℕ) (event : Event)
-    → bits ≢ 7 → kind ≡ Am bits
-    → option_map (λ n. n.octets) (option_map (λ (x : Offer). written kind p x.count x.text) o) ≡ Some sdu
-    → next_told lcid (Am bits) (option_map (λ (x : Offer). written kind p x.count x.text) o) ≡ event ∷ []
-    → event_told (Am bits) false event ≡ Some (SduTaken (length sdu))
-offer_told bits lcid kind p None sdu event wide k t e = cc
-offer_told bits lcid kind p (Some x) sdu event wide k t e =
-    let is : (written (Am bits) p x.count x.text).octets ≡ sdu =
+offer_told : (kind own : PdcpKind) (lcid : ℕ) (p : Protection) (o : Option Offer) (sdu : List ℕ) (event : Event)
+    → IsAcknowledged kind → own ≡ kind
+    → option_map (λ n. n.octets) (option_map (λ (x : Offer). written own p x.count x.text) o) ≡ Some sdu
+    → next_told lcid kind (option_map (λ (x : Offer). written own p x.count x.text) o) ≡ event ∷ []
+    → event_told kind false event ≡ Some (SduTaken (length sdu))
+offer_told kind own lcid p None sdu event a k t e = cc
+offer_told kind own lcid p (Some x) sdu event a k t e =
+    let is : (written kind p x.count x.text).octets ≡ sdu =
     let at = ap (λ (y : PdcpKind). (written y p x.count x.text).octets) (sym k) in at ∙ cc in
-    next_is_told bits lcid p x.count x.text event wide
-    (subst (λ (y : PdcpKind). next_told lcid (Am bits) (Some (written y p x.count x.text)) ≡ event ∷ []) k e)
+    next_is_told kind lcid p x.count x.text event a
+    (subst (λ (y : PdcpKind). next_told lcid kind (Some (written y p x.count x.text)) ≡ event ∷ []) k e)
     ∙ ap (λ (xs : List ℕ). Some (SduTaken (length xs))) is
 
 pub taken_are_told : TakenAreTold
 unfolding taken taking_told taking
-taken_are_told bits e sdu event h t told =
-    offer_told bits e.lcid e.tx.kind e.tx.protection (slice_get (offers e.tx) 0) sdu event h.wide h.sending t
-    (subst (λ (k : PdcpKind). next_told e.lcid k (taking e.tx) ≡ event ∷ []) h.kind told)
+taken_are_told kind e sdu event h t told =
+    offer_told kind e.tx.kind e.lcid e.tx.protection (slice_get (offers e.tx) 0) sdu event h.acknowledged h.sending t
+    (subst (λ (k : PdcpKind). next_told e.lcid k (taking e.tx) ≡ event ∷ []) h.kind_is told)

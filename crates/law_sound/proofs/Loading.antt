@@ -23,7 +23,7 @@ use Rattle.bearer_types.specs.Sides.{is_same, other}
 use Rattle.law_words.specs.Arrivals.{Account}
 use Rattle.law_words.specs.Passing.{last_with}
 use Rattle.law_words.specs.Passing as words
-use Rattle.promises.specs.Names.{SentPdu, IsNamed, Acknowledged}
+use Rattle.promises.specs.Names.{IsNamed, Acknowledged}
 use Rattle.journal_account.specs.FlowEvents.{NumberWritten, OctetsResent, next_of}
 use Rattle.journal_lives.specs.LifeEvents.{LifeEvent, InLife, running}
 use Rattle.journal_flows.specs.declared.parcels.Parcel.{Parcel}
@@ -135,9 +135,6 @@ pub record IsLoaded (from : Side) (l age : ℕ) (a : Account) (pdus : List AmdPd
   pub agrees : Agrees a (flow from l b.flows)
   pub held : AreSpans pdus (spans l b.parcels)
   pub near : AreNear a.rlc.fields age (spans l b.parcels)
-
-abbrev pub name_of : SentPdu → Named
-name_of s = record { lcid = s.lcid; how = s.how }
 
 -- ---- a PDU of the flow
 
@@ -387,7 +384,8 @@ read_pdu from l next age sn kind hows.Status octets a pdus b r next_is read name
 
 abbrev pub IsElse : ℕ → Parcel → Type 0
 IsElse l (Octets lcid n start end) = (lcid == l) ≡ false
-IsElse l p = Unit {0}
+IsElse l (Pieces lcid n size pieces) = Unit {0}
+IsElse l (Report lcid ack entries) = (lcid == l) ≡ false
 
 else_span : (l : ℕ) (p : Parcel) → IsElse l p → span_in l p ≡ []
 else_span l (Octets lcid n start end) apart =
@@ -395,7 +393,7 @@ else_span l (Octets lcid n start end) apart =
 else_span l (Pieces lcid n size pieces) apart = refl
 else_span l (Report lcid ack entries) apart = refl
 
-not_at : (from side : Side) (l lcid : ℕ) → (lcid == l) ≡ false → is_at side lcid from l ≡ false
+pub not_at : (from side : Side) (l lcid : ℕ) → (lcid == l) ≡ false → is_at side lcid from l ≡ false
 not_at from side l lcid apart =
     ap (λ (b : Bool). is_same side from && b) apart ∙ none (is_same side from)
   where
@@ -427,7 +425,7 @@ else_am l next front lcid hows.Re (Ok (Payload pdu)) apart = apart
 else_am l next front lcid hows.Re (Ok (Status pdu)) apart = tt
 else_am l next front lcid hows.Re (Err refused) apart = tt
 else_am l next front lcid hows.Status (Ok (Payload pdu)) apart = tt
-else_am l next front lcid hows.Status (Ok (Status pdu)) apart = tt
+else_am l next front lcid hows.Status (Ok (Status pdu)) apart = apart
 else_am l next front lcid hows.Status (Err refused) apart = tt
 else_am l next front lcid hows.Tm r apart = tt
 

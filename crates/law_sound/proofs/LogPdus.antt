@@ -30,7 +30,8 @@ use Rattle.journal_account.specs.FlowEvents.{FlowEvent, NumberWritten, OctetsRes
 use Rattle.law_rlc.specs.AmSender.Run.{Call, begun}
 use Rattle.law_rlc.specs.AmSender.Acked.{acked_after}
 use Rattle.law_rlc.specs.AmSender.Octets.{Place, Octets, nothing_sent, octets_after, written, segment_of, sent_with}
-use Rattle.law_rlc.specs.AmSender.Octets.{lengths, new_count, IsNew, IsAgain, IsNone, IsWritten, HasOctets}
+use Rattle.law_rlc.specs.AmSender.Octets.{lengths, again_octets, new_count, IsNew, IsAgain, IsNone, IsWritten}
+use Rattle.law_rlc.specs.AmSender.Octets.{HasOctets}
 use Rattle.law_rlc.specs.AmSender.Polled.{poll_of}
 use Rattle.law_rlc.proofs.AmSender.Keys.{key}
 use Rattle.law_rlc.proofs.AmSender.Least.{least}
@@ -72,7 +73,7 @@ octets_sum (xs ∷ xss) =
     ap (λ (n : ℕ). length xs + n) (octets_sum xss)
     ∙ sym (sum_by-cons (λ (n : ℕ). n) (length xs) (map length xss))
 
-reads_stretch : (number : ℕ) (poll : Bool) (ps : List Place) (from to : ℕ) → IsAired ps → from < to → to ≤ length ps
+pub reads_stretch : (number : ℕ) (poll : Bool) (ps : List Place) (from to : ℕ) → IsAired ps → from < to → to ≤ length ps
     → IsStretch number from to (written number poll (segment_of from to (length ps)) (slice_range ps from to))
 reads_stretch number poll ps from to a lt le = record {
   pdu = read_as number poll (segment_of from to (length ps)) qs;
@@ -167,7 +168,53 @@ told_again next number from to octets lt young some r = by (r.pdu.sn == next % 1
         ∙ (ap (λ (n : ℕ). OctetsResent number n (so_of r.pdu.segment + octets_in r.pdu.elements)) r.so
         ∙ ap (λ (n : ℕ). OctetsResent number from n) end)
 
--- ---- what `take` answers
+-- ---- what `take` answers is read so
+
+module _ (config : AmTxConfig) (calls : List Call) (offered : AllByRecursion HasOctets calls)
+    (aired : AllAired (ran config calls).past.sent) (size : ℕ) (few : size ≤ 32767) (held : Option ℕ) (more : Bool)
+  where
+    pub keeps : Keeps (ran config calls).state (ran config calls).past
+    keeps = run-keeps calls (begun config nothing_sent) offered (start-keeps config)
+
+    pub young : length (ran config calls).past.sent ≤ number_again (ran config calls).state + 512
+    young =
+        let n = keeps.faces.number in
+        let w : next (ran config calls).state.window ≤ (ran config calls).state.window.base + 512 =
+        subst (λ (x : State). next x.window ≤ x.window.base + 512)
+        (same-state acked_after octets_after calls (begun config (λ n. false)) (begun config nothing_sent) refl)
+        (least config calls).window in
+        omega (arith, w, n)
+
+    abbrev pub new_places : List Place
+    new_places = take (new_count (ran config calls).state size) (ran config calls).past.unsent
+
+    pub new_face : turn (ran config calls).state size held more ≡ turns.New
+        → IsFace (key (new_slot (ran config calls).state size)) new_places
+    new_face e =
+        let w = ran config calls in
+        new-face w.state size w.past.unsent w.past.sent keeps.faces (new-able w.state size held more e)
+
+    pub new_aired : turn (ran config calls).state size held more ≡ turns.New → IsAired new_places
+    new_aired e =
+        let w = ran config calls in
+        let able = new-able w.state size held more e in
+        let l = face-length (key (new_slot w.state size)) new_places (new_face e) in
+        let u = fits-size 2 size w.state.queue.sdus able.0 (let three = able.1 in omega (arith, three)) in
+        face_aired (new_slot w.state size) new_places (new_face e) (omega (arith, l, u, few))
+
+    pub new_read : (number : ℕ) (poll : Bool) → turn (ran config calls).state size held more ≡ turns.New
+        → IsStretch number 0 (length new_places) (written number poll None new_places)
+    new_read number poll e = reads_all number poll new_places (new_aired e)
+
+    pub again_read : (from to : ℕ) (t : Taken) → IsAgain (ran config calls).state size from to (ran config calls).past t
+        → IsStretch (number_again (ran config calls).state) from to
+        (again_octets (ran config calls).past (number_again (ran config calls).state) from to (poll_of t))
+    again_read from to t w =
+        let number = number_again (ran config calls).state in
+        reads_stretch number (poll_of t) (sent_with (ran config calls).past number) from to (aired number w.sent) w.some
+        w.within
+
+-- ---- and logged so
 
 module _ (kind : PdcpKind) (config : AmTxConfig) (calls : List Call) (offered : AllByRecursion HasOctets calls)
     (aired : AllAired (ran config calls).past.sent) (es : List FlowEvent)
@@ -179,20 +226,8 @@ module _ (kind : PdcpKind) (config : AmTxConfig) (calls : List Call) (offered : 
   abbrev o : Octets
   o = (ran config calls).past
 
-  keeps : Keeps s o
-  keeps = run-keeps calls (begun config nothing_sent) offered (start-keeps config)
-
   count : next_of es ≡ length o.sent
-  count = written_is ∙ sym keeps.faces.number
-
-  young : length o.sent ≤ number_again s + 512
-  young =
-      let same = same-state acked_after octets_after calls (begun config (λ n. false)) (begun config nothing_sent) refl
-      in
-      let w : next s.window ≤ s.window.base + 512 =
-      subst (λ (x : State). next x.window ≤ x.window.base + 512) same (least config calls).window in
-      let n = keeps.faces.number in
-      omega (arith, w, n)
+  count = written_is ∙ sym (keeps config calls offered aired size few held more).faces.number
 
   abbrev Logs : Taken → Turn → Type 0
   Logs t u = with_log kind false (writing (pdus_of t)) es ≡ with_told (turn_told u s size) es
@@ -204,17 +239,11 @@ module _ (kind : PdcpKind) (config : AmTxConfig) (calls : List Call) (offered : 
   one number first poll octets e pdu read is =
       ap (λ r. with_told (written_told (next_of es) r) es) read ∙ ap (λ (x : FlowEvent). x ∷ es) is
 
-  abbrev ps : List Place
-  ps = take (new_count s size) o.unsent
-
   new_logs : (t : Taken) → turn s size held more ≡ turns.New → IsNew s size o t → Logs t turns.New
   new_logs t e w =
-      let able = new-able s size held more e in
-      let f : IsFace (key (new_slot s size)) ps = new-face s size o.unsent o.sent keeps.faces able in
-      let l = face-length (key (new_slot s size)) ps f in
-      let u = fits-size 2 size s.queue.sdus able.0 (let three = able.1 in omega (arith, three)) in
-      let a = face_aired (new_slot s size) ps f (omega (arith, l, u, few)) in
-      let r = reads_all (length o.sent) (poll_of t) ps a in
+      let ps = new_places config calls offered aired size few held more in
+      let l = face-length (key (new_slot s size)) ps (new_face config calls offered aired size few held more e) in
+      let r = new_read config calls offered aired size few held more (length o.sent) (poll_of t) e in
       subst (λ (x : Taken). Logs x turns.New) (sym w.is)
       (one (length o.sent) true (poll_of t) (written (length o.sent) (poll_of t) None ps)
       (NumberWritten (length (new_slot s size).field)) r.pdu r.read
@@ -225,17 +254,18 @@ module _ (kind : PdcpKind) (config : AmTxConfig) (calls : List Call) (offered : 
       → IsAgain s size from to o t → Logs t u
   again_logs from to t u told w =
       let number = number_again s in
-      let r = reads_stretch number (poll_of t) (sent_with o number) from to (aired number w.sent) w.some w.within in
+      let r = again_read config calls offered aired size few held more from to t w in
       subst (λ (x : Taken). Logs x u) (sym w.is)
       (one number false (poll_of t) (written number (poll_of t) (segment_of from to (length (sent_with o number)))
       (slice_range (sent_with o number) from to)) (OctetsResent number from to) r.pdu r.read
       (told_again (next_of es) number from to _ (let n = count in let k = w.sent in omega (arith, n, k))
-      (let n = count in let y = young in omega (arith, n, y)) w.some r)
+      (let n = count in let y = young config calls offered aired size few held more in omega (arith, n, y)) w.some r)
       ∙ ap (λ (x : Option FlowEvent). with_told x es) (sym told))
 
   whole_field : waits s ≡ true → length (again s).field ≡ length (sent_with o (number_again s))
   whole_field w =
-      face-length (key (again s)) (sent_with o (number_again s)) (keeps.faces.slots (first_place s) (is-below s w))
+      face-length (key (again s)) (sent_with o (number_again s))
+      ((keeps config calls offered aired size few held more).faces.slots (first_place s) (is-below s w))
 
   none_logs : (t : Taken) → IsNone t → with_log kind false (writing (pdus_of t)) es ≡ es
   none_logs (taken.Piece number fresh polled octets) n = absurd n

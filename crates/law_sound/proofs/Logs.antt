@@ -84,7 +84,7 @@ owned s h = subst OwnsSome h.left
     (owns_calls h.calls (start h.config) h.bounded (record { fields = []; owns = start_owns h.config }))
 
 -- a call more
-bounded_more : (cs : List Call) (c : Call) → AllByRecursion IsBounded cs → IsBounded c
+pub bounded_more : (cs : List Call) (c : Call) → AllByRecursion IsBounded cs → IsBounded c
     → AllByRecursion IsBounded (cs ++ c ∷ [])
 bounded_more [] c h one = (one, tt)
 bounded_more (d ∷ ds) c h one = (h.0, bounded_more ds c h.1 one)
@@ -93,7 +93,7 @@ state_more : (cs : List Call) (c : Call) (s : State) → state_after (cs ++ c �
 state_more [] c s = refl
 state_more (d ∷ ds) c s = state_more ds c (after s d)
 
-comes_on : (s : State) (c : Call) → IsBounded c → HasComeBy s → HasComeBy (after s c)
+pub comes_on : (s : State) (c : Call) → IsBounded c → HasComeBy s → HasComeBy (after s c)
 comes_on s c b h = record {
   config = h.config;
   calls = h.calls ++ c ∷ [];
@@ -103,7 +103,7 @@ comes_on s c b h = record {
 
 -- ---- entries
 
-log_both : (kind : PdcpKind) (more : Bool) (xs ys : List BearerEntry) (es : List FlowEvent)
+pub log_both : (kind : PdcpKind) (more : Bool) (xs ys : List BearerEntry) (es : List FlowEvent)
     → with_log kind more (xs ++ ys) es ≡ with_log kind more ys (with_log kind more xs es)
 log_both kind more [] ys es = refl
 log_both kind more (x ∷ xs) ys es = log_both kind more xs ys (with_told (entry_told kind more (next_of es) x) es)
@@ -114,7 +114,7 @@ fails_both (x ∷ xs) ys =
     ap (λ (sns : List ℕ). fails_at x ++ sns) (fails_both xs ys)
     ∙ sym (append_assoc (fails_at x) (fails_in xs) (fails_in ys))
 
-written_fails : (pdus : List (List ℕ)) → fails_in (writing pdus) ≡ []
+pub written_fails : (pdus : List (List ℕ)) → fails_in (writing pdus) ≡ []
 written_fails [] = refl
 written_fails (pdu ∷ pdus) = written_fails pdus
 
@@ -313,18 +313,19 @@ logs_tell_calls kind most es s Confirm log come l a f = record {
 
 -- ---- all else
 
-record TellsNone (kind : PdcpKind) (next : ℕ) (x : BearerEntry) : Type 0 where
-  none : entry_told kind false next x ≡ None
+record TellsNone (kind : PdcpKind) (more : Bool) (next : ℕ) (x : BearerEntry) : Type 0 where
+  none : entry_told kind more next x ≡ None
   fails : fails_at x ≡ []
 
-event_none : (kind : PdcpKind) (next : ℕ) (e : Event) → is_of_flow e ≡ false → TellsNone kind next (Tells e)
-event_none kind next (events.Take lcid count len) h = cc
-event_none kind next (events.Report lcid fms bitmap) h = cc
-event_none kind next (events.Expired lcid Poll) h = cc
-event_none kind next (events.Expired lcid Reorder) h = record { none = refl; fails = refl }
-event_none kind next (events.Expired lcid Prohibit) h = record { none = refl; fails = refl }
-event_none kind next (events.Fail lcid sn) h = cc
-event_none kind next e h = record { none = refl; fails = refl }
+event_none : (kind : PdcpKind) (more : Bool) (next : ℕ) (e : Event) → is_of_flow e ≡ false
+    → TellsNone kind more next (Tells e)
+event_none kind more next (events.Take lcid count len) h = cc
+event_none kind more next (events.Report lcid fms bitmap) h = cc
+event_none kind more next (events.Expired lcid Poll) h = cc
+event_none kind more next (events.Expired lcid Reorder) h = record { none = refl; fails = refl }
+event_none kind more next (events.Expired lcid Prohibit) h = record { none = refl; fails = refl }
+event_none kind more next (events.Fail lcid sn) h = cc
+event_none kind more next e h = record { none = refl; fails = refl }
 
 come_none : (w : ℕ) (octets : List ℕ) → (ReadsAsStatus octets → ⊥) → come_told w (am_at octets) ≡ None
 come_none w octets unread = by (am_at octets) refl
@@ -334,26 +335,27 @@ come_none w octets unread = by (am_at octets) refl
     by (Ok (Payload pdu)) e = refl
     by (Err refused) e = refl
 
-entry_none : (kind : PdcpKind) (next : ℕ) (x : BearerEntry) → IsElse x → TellsNone kind next x
-entry_none kind next (Tells e) h = event_none kind next e h
-entry_none kind next (Writes octets) h = absurd h
-entry_none kind next (Comes octets) h = record { none = come_none next octets h; fails = refl }
+entry_none : (kind : PdcpKind) (more : Bool) (next : ℕ) (x : BearerEntry) → IsElse x → TellsNone kind more next x
+entry_none kind more next (Tells e) h = event_none kind more next e h
+entry_none kind more next (Writes octets) h = absurd h
+entry_none kind more next (Comes octets) h = record { none = come_none next octets h; fails = refl }
 
-else_log : (kind : PdcpKind) (log : List BearerEntry) (es : List FlowEvent) → AllByRecursion IsElse log
-    → with_log kind false log es ≡ es
-else_log kind [] es h = refl
-else_log kind (x ∷ log) es h =
-    ap (λ (o : Option FlowEvent). with_log kind false log (with_told o es)) (entry_none kind (next_of es) x h.0).none
-    ∙ else_log kind log es h.1
+pub else_log : (kind : PdcpKind) (more : Bool) (log : List BearerEntry) (es : List FlowEvent)
+    → AllByRecursion IsElse log → with_log kind more log es ≡ es
+else_log kind more [] es h = refl
+else_log kind more (x ∷ log) es h =
+    ap (λ (o : Option FlowEvent). with_log kind more log (with_told o es))
+    (entry_none kind more (next_of es) x h.0).none
+    ∙ else_log kind more log es h.1
 
 else_fails : (kind : PdcpKind) (log : List BearerEntry) → AllByRecursion IsElse log → fails_in log ≡ []
 else_fails kind [] h = refl
 else_fails kind (x ∷ log) h =
-    ap (λ (sns : List ℕ). sns ++ fails_in log) (entry_none kind 0 x h.0).fails ∙ else_fails kind log h.1
+    ap (λ (sns : List ℕ). sns ++ fails_in log) (entry_none kind false 0 x h.0).fails ∙ else_fails kind log h.1
 
 -- ---- any deeds
 
-bounded_as : (kind : PdcpKind) (s : State) (c : Call) (log : List BearerEntry) → IsAsked kind s c log → IsBounded c
+pub bounded_as : (kind : PdcpKind) (s : State) (c : Call) (log : List BearerEntry) → IsAsked kind s c log → IsBounded c
 bounded_as kind s (Offer sdu) log a = a.some
 bounded_as kind s (Take size held more) log a = a
 bounded_as kind s (Hears status) log a = tt
@@ -392,7 +394,7 @@ are_calls kind most (AtSender (Makes c log) ∷ ds) es s come ((deed, asked), ar
       come = rest.come;
     }
 are_calls kind most (AtSender (Else log) ∷ ds) es s come ((deed, asked), are) f =
-    let same = else_log kind log es deed in
+    let same = else_log kind false log es deed in
     let rest = are_calls kind most ds es s come
     (subst (λ (xs : List FlowEvent). AreLogged kind xs s ds) same are) f in
     record {

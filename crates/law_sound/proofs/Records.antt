@@ -46,7 +46,7 @@ use Rattle.law_sound.proofs.Pending.{ComesSoon, AllComeSoon}
 use Rattle.law_sound.proofs.Pending as soon
 use Rattle.promises.specs.SentNumbers.{AreNumbers, sent_in}
 use Rattle.law_sound.proofs.Numbering.{behind_all, behind_both, numbers_first, numbers_rest, new_one, news_push}
-use Rattle.law_sound.proofs.Loading.{name_of}
+use Rattle.law_sound.specs.LoadLaws.{name_of}
 use Rattle.law_sound.proofs.Blocks.{other_loads, other_lands}
 use Rattle.law_sound.proofs.Given.{event_gives, none_given}
 use Rattle.law_sound.proofs.Flying.{after_air, IsFlown, AreFlown}

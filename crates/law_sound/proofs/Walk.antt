@@ -35,7 +35,8 @@ use Rattle.law_sound.proofs.Agreeing.{Agrees}
 use Rattle.law_sound.proofs.Flying.{Flying, with_new, with_again, with_other}
 use Rattle.law_sound.proofs.Numbering.{behind_all, behind_is, news}
 use Rattle.law_sound.proofs.Telling.{flow}
-use Rattle.law_sound.proofs.Loading.{pdus_of, data_of, spans, AreSpans, AreNear, near_more, IsBehind, name_of}
+use Rattle.law_sound.specs.LoadLaws.{name_of}
+use Rattle.law_sound.proofs.Loading.{pdus_of, data_of, spans, AreSpans, AreNear, near_more, IsBehind}
 use Rattle.law_sound.proofs.Blocks.{pdus_are, block_loads, block_lands, come_is, come_fields}
 
 -- ---- what stands behind some records

@@ -55,7 +55,7 @@ status_none octets status reads pdu e =
     let no : Ok (Control status) ≡ Ok (Payload pdu) = sym reads ∙ e in
     cc
 
-at_most_one : (t : Taken) → length (pdus_of t) ≤ 1
+pub at_most_one : (t : Taken) → length (pdus_of t) ≤ 1
 at_most_one (taken.Piece number first polled octets) = omega arith
 at_most_one taken.Idle = omega arith
 at_most_one taken.Small = omega arith

@@ -68,6 +68,10 @@ ReceiversGoOnOver = (most : ℕ) (es : List FlowEvent) (tx : Sender) (rx : Recei
 abbrev pub IsNoData : List ℕ → Type 0
 IsNoData octets = (pdu : AmdPdu) → am_at octets ≡ Ok (Payload pdu) → ⊥
 
+-- one
+abbrev pub ReadsAsData : List ℕ → Type 0
+ReadsAsData octets = (pdu : AmdPdu) × (am_at octets ≡ Ok (Payload pdu))
+
 -- none comes in it
 abbrev pub BringsNoData : Call → Type 0
 BringsNoData (Arrive octets) = IsNoData octets

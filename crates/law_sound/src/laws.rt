@@ -9,10 +9,25 @@ ghost use Rattle.law_sound.specs.HearingLaws.{BearersHear, BearersHearData, Ends
 ghost use Rattle.law_sound.specs.HearingLaws.{BlocksAreHeard, UnderWayBrings};
 ghost use Rattle.law_sound.specs.HearingLaws.{BearersReportTruly, BearersWriteOneData};
 ghost use Rattle.law_sound.specs.AirHearing.{LivesBegin, EndsHearByAir, BlocksBringOneData};
+ghost use Rattle.law_sound.specs.CallHearing.{BearersHearOver, EndsHearCalls};
+ghost use Rattle.law_sound.specs.BlockStatuses.{EndsWriteTruly, ReportsAreTrue};
+ghost use Rattle.law_sound.specs.LivedHistories.{EndsGoOnByAir, LivesBeginBeside};
+ghost use Rattle.law_sound.specs.LivedHistories.{MovesBeginBeside, LivesGoOnBeside};
+ghost use Rattle.law_sound.specs.LivedHistories.{LivesGoOver, LivesWriteTruly};
+ghost use Rattle.law_sound.specs.IgnoredLaws.{LogsTellIgnored, NoBlockIsIgnored};
 ghost use Rattle.law_sound.specs.GatherLaws.{EventsAreGathered, DataIsGathered};
 ghost use Rattle.law_sound.specs.GatherLaws.{TrueStatusIsGathered};
+ghost use Rattle.law_sound.specs.RecordLaws.{NewRecordsBuild, LandingRecordsBring};
+ghost use Rattle.law_sound.specs.CarriedLaws.{ParcelsBring, CarriedPdusCome};
+ghost use Rattle.law_sound.specs.ReorderingLaws.{ReorderingsAreGathered, ToldIsGathered};
+ghost use Rattle.law_sound.specs.HeldLaws.{HeldBlocksStay, HeldBlocksAge, NewBlocksAreHeld};
+ghost use Rattle.law_sound.specs.LoadLaws.{NewBlocksAreNamed, NewBlocksAreLoaded};
 ghost use Rattle.law_sound.specs.LogLaws.{LogsTellCalls, LogsTellFlows};
+ghost use Rattle.law_sound.specs.EqualBlocks.{EqualBlocksCarryAlike};
+ghost use Rattle.law_sound.specs.NumberLaws.{NumbersAreGiven, NewPdusAreGathered};
 ghost use Rattle.law_sound.specs.SduLaws.{TakenAreTold};
+ghost use Rattle.law_sound.specs.AirSending.{EndsSendByAir};
+ghost use Rattle.law_sound.specs.FailLaws.{LogsGoOn, ReceiversFailNone, FailsJoin};
 ghost use Rattle.law_sound.specs.RunLaws.{RunsTellFlows, RunsDeliver};
 
 /// Which COUNTs have come of acknowledged data is the same by the octets of its PDUs and by the
@@ -85,12 +100,42 @@ pub fn ends_hear_by_air()
     ensures blocks { BlocksBringOneData }
 {}
 
+/// And in each call of an end in which no block comes they stay so by what its bearer of the
+/// channel tells in it: with the blocks that come, at each step of the end that hears.
+pub fn ends_hear_calls()
+    ensures calls { BearersHearOver }
+    ensures hearing { EndsHearCalls }
+{}
+
 /// The STATUS that an acknowledged bearer writes then, with 3 octets of its share for a subheader,
 /// is gathered as one that is true of the flow that it hears; behind it stands one data PDU at
 /// most.
 pub fn bearers_write()
     ensures statuses { BearersReportTruly }
     ensures data_pdus { BearersWriteOneData }
+{}
+
+/// So, at each moment of a life of two ends over the air, a new block that an end builds carries of
+/// the channel STATUS PDUs that are gathered as true of the flow that it hears, and behind them one
+/// data PDU at most: each that is gathered as a STATUS is true.
+pub fn ends_write_truly()
+    ensures lives { EndsWriteTruly }
+    ensures reports { ReportsAreTrue }
+{}
+
+/// So along the lives of two ends over the air both acknowledged bearers of a channel stay beside a
+/// history of each of its flows: it begins without events, with each life, and goes on in each step
+/// by what the sender's bearer logs, by the data PDUs of a block that comes, with the numbers that
+/// they were written with, and by what the receiver's bearer tells of t-Reordering. The sender's
+/// tells just so many STATUS as ignored as the history ignores, and the STATUS PDUs in a new block
+/// are gathered as true of it.
+pub fn lives_go_on()
+    ensures steps { EndsGoOnByAir }
+    ensures begins { LivesBeginBeside }
+    ensures moves { MovesBeginBeside }
+    ensures lives { LivesGoOnBeside }
+    ensures over { LivesGoOver }
+    ensures writes { LivesWriteTruly }
 {}
 
 /// What an acknowledged bearer logs of a call of RLC's sender tells its event, entry by entry and
@@ -107,10 +152,25 @@ pub fn logs_tell_flows()
     ensures { LogsTellFlows }
 {}
 
+/// Over any calls the log tells just so many STATUS PDUs as ignored as are ignored by the history
+/// that it tells; in a call of an end in which no block comes it tells of none.
+pub fn logs_tell_ignored()
+    ensures logs { LogsTellIgnored }
+    ensures no_block { NoBlockIsIgnored }
+{}
+
 /// On a channel with an acknowledged bearer, what is gathered from a journal of a record of its
 /// sender's end adds just the event that the log tells of it to the history of the life that runs.
 pub fn events_are_gathered()
     ensures { EventsAreGathered }
+{}
+
+/// A record of t-Reordering adds just what it tells to the history of the flow that its side hears;
+/// no other record of that side adds anything to it. So all that a side tells adds on a channel
+/// what is logged of it to the flow that the side sends, and what t-Reordering does to the other.
+pub fn reorderings_are_gathered()
+    ensures records { ReorderingsAreGathered }
+    ensures all { ToldIsGathered }
 {}
 
 /// A data PDU whose record names its number is gathered as the log tells it.
@@ -124,8 +184,80 @@ pub fn true_status_is_gathered()
     ensures { TrueStatusIsGathered }
 {}
 
-/// An SDU or a status report that RLC takes on a bearer of data is told in the log with its length,
-/// where one record tells it.
+/// An SDU or a status report that RLC takes on an acknowledged bearer is told in the log with its
+/// length, where one record tells it.
 pub fn taken_are_told()
     ensures { TakenAreTold }
+{}
+
+/// In each step of a life of two ends over the air, whatever call comes to an end and whatever
+/// block, both ends stay beside the history of the flow that the acknowledged bearer of the channel
+/// sends on there, as it goes on by what this bearer logs in the step; and the SNs of the `fail`
+/// records in it are right by this history, as their checker asks it.
+pub fn ends_send_by_air()
+    ensures { EndsSendByAir }
+{}
+
+/// A data PDU that the sender of a flow writes has the number of VT(S), if it is new; else the last
+/// number below VT(S) that has its SN.
+pub fn numbers_are_given()
+    ensures { NumbersAreGiven }
+{}
+
+/// So each PDU that an acknowledged bearer writes into a new block, beside the histories of its two
+/// flows, is gathered from a journal as the parcel of its own numbers, where its record names it by
+/// what it is and by its number: a data PDU of the number that the sender gave it, a STATUS of the
+/// ACK and the entries that it was written with.
+pub fn new_pdus_are_gathered()
+    ensures { NewPdusAreGathered }
+{}
+
+/// The records before a canonical block name its PDUs of an acknowledged channel as they are. So
+/// such a block is gathered from them just so: among PDUs of other channels, whose parcels are of
+/// theirs, stand on an acknowledged channel the parcels of what the block carries, and the history
+/// of the flow out has its data PDU as it is written.
+pub fn new_blocks_are_loaded()
+    ensures names { NewBlocksAreNamed }
+    ensures blocks { NewBlocksAreLoaded }
+{}
+
+/// So, on an acknowledged channel, what a journal tells that the processes of a side hold stays
+/// what the blocks under way of these processes carry: as a new block is built, and through all
+/// else in a life.
+pub fn held_blocks_stay()
+    ensures acts { HeldBlocksStay }
+    ensures ttis { HeldBlocksAge }
+    ensures builds { NewBlocksAreHeld }
+{}
+
+/// And as such a block comes, at any later moment of the life, what its parcels add to the
+/// histories is what its PDUs bring: the octets of a data PDU arrive with the number that it was
+/// written with, and both ends stay beside the history so; a STATUS is heard with its ACK and its
+/// entries, which have true numbers at its sender then.
+pub fn carried_pdus_come()
+    ensures parcels { ParcelsBring }
+    ensures blocks { CarriedPdusCome }
+{}
+
+/// Blocks of equal octets that are under way from an end carry the same parcels of an acknowledged
+/// channel, at each moment of a life: so which of them comes is no matter to what is gathered.
+pub fn equal_blocks_carry_alike()
+    ensures { EqualBlocksCarryAlike }
+{}
+
+/// So the SNs of all `fail` records in many steps are right by the history where those of each step
+/// are: they are told of stretches of it, one behind the other, to which a log adds events. By what
+/// happens at the flow's receiver nothing fails.
+pub fn fails_join()
+    ensures logs { LogsGoOn }
+    ensures receivers { ReceiversFailNone }
+    ensures stretches { FailsJoin }
+{}
+
+/// So, behind the record of a new block, its process holds what it carries, on an acknowledged
+/// channel just that was written, and no PDU is named that isn't in a block; behind a record that
+/// tells that the block was got, just what it carries has come.
+pub fn records_go_on()
+    ensures blocks { NewRecordsBuild }
+    ensures landings { LandingRecordsBring }
 {}

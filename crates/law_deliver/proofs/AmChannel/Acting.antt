@@ -3,7 +3,7 @@ use Rattle.std.proofs.Common.{◌≡◌, ℕ, Option, Some, None, List, [], ◌�
 use Rattle.std.proofs.Common.{slice_get, refl, ap, sym, subst, ◌∙◌, inl, inr}
 use Rattle.std.specs.List.{AllByRecursion}
 use Rattle.std.proofs.lemmas.List.{map-append}
-use Rattle.law_rlc.specs.AmPair.Flow.{Copy}
+use Rattle.law_rlc.specs.AmPair.Flow.{Copy, Report}
 use Rattle.bearer.specs.declared.flow.Flow.{Flow}
 use Rattle.bearer.specs.declared.flow.Flow.TheVariants.{Am}
 use Rattle.bearer.specs.Submitting.{refusal as flow_refusal}
@@ -15,7 +15,7 @@ use Rattle.l2_types.specs.declared.side.Side.TheVariants.{Nb, Ue}
 use Rattle.law_node.specs.Calls.{Receive}
 use Rattle.law_node.specs.Holding.{flow}
 use Rattle.law_deliver.specs.AmFlow.Air.{Block, Station, Act, Calls, Comes, Goes, IsDone}
-use Rattle.law_deliver.specs.AmFlow.Pair.{SentStatus, BearerEnd, Pair, Deed, Calls as CallsBearer, DataComes}
+use Rattle.law_deliver.specs.AmFlow.Pair.{BearerEnd, Pair, Deed, Calls as CallsBearer, DataComes}
 use Rattle.law_deliver.specs.AmFlow.Pair.{StatusComes}
 use Rattle.law_deliver.specs.AmFlow.Pair.{DataGoes, StatusGoes, Step, Near, Far, called, data_comes, status_comes, does}
 use Rattle.law_deliver.specs.AmFlow.Pair.{happens, goes}
@@ -43,7 +43,7 @@ data_rest : (o : Option Copy) (e : BearerEnd) (cs : List BearerCall) → AreAcce
 data_rest None e cs h = h
 data_rest (Some c) e cs h = h.1
 
-status_rest : (o : Option SentStatus) (e : BearerEnd) (cs : List BearerCall)
+status_rest : (o : Option Report) (e : BearerEnd) (cs : List BearerCall)
     → AreAccepted e.bearer (status_call o ++ cs)
     → AreAccepted (status_comes e o).bearer cs
 status_rest None e cs h = h
@@ -84,7 +84,7 @@ data_same : (o : Option Copy) → call_by o ≡ data_call o
 data_same None = refl
 data_same (Some c) = refl
 
-status_same : (o : Option SentStatus) → call_of o ≡ status_call o
+status_same : (o : Option Report) → call_of o ≡ status_call o
 status_same None = refl
 status_same (Some s) = refl
 

@@ -32,8 +32,8 @@ use Rattle.law_deliver.specs.AmFlow.Air.{IsDone, HasCome}
 use Rattle.law_deliver.specs.AmFlow.Channels.{only, share_of, held_of, takes_of, submits_of, calls_of, written_by}
 use Rattle.law_deliver.specs.AmFlow.Channels.{GoesOnInLife}
 use Rattle.promises.specs.Pdus.{carried}
-use Rattle.law_rlc.specs.AmPair.Flow.{Copy}
-use Rattle.law_deliver.specs.AmFlow.Pair.{SentStatus, BearerEnd, Pair, Deed, Calls as CallsBearer, DataComes}
+use Rattle.law_rlc.specs.AmPair.Flow.{Copy, Report}
+use Rattle.law_deliver.specs.AmFlow.Pair.{BearerEnd, Pair, Deed, Calls as CallsBearer, DataComes}
 use Rattle.law_deliver.specs.AmFlow.Pair.{StatusComes}
 use Rattle.law_deliver.specs.AmFlow.Pair.{DataGoes, StatusGoes, Near, Far, called, data_comes, status_comes, does}
 use Rattle.law_deliver.specs.AmFlow.Pair.{happens}
@@ -90,7 +90,7 @@ deed_says other e (DataComes k) cs = by (slice_get other.copies k)
     by (Some c) = refl
 deed_says other e (StatusComes k) cs = by (slice_get other.reports k)
   where
-    by : (x : Option SentStatus) → says e.bearer (status_call x ++ cs)
+    by : (x : Option Report) → says e.bearer (status_call x ++ cs)
         ≡ said_by e.bearer (status_call x) ++ says (status_comes e x).bearer cs
     by None = refl
     by (Some s) = refl
@@ -106,7 +106,7 @@ deed_hears other (DataComes k) = by (slice_get other.copies k)
     by (Some c) = refl
 deed_hears other (StatusComes k) = by (slice_get other.reports k)
   where
-    by : (x : Option SentStatus) → hears (status_call x) ≡ bearers_hear (status_call x)
+    by : (x : Option Report) → hears (status_call x) ≡ bearers_hear (status_call x)
     by None = refl
     by (Some s) = refl
 deed_hears other (DataGoes k) = refl

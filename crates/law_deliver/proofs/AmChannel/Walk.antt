@@ -63,7 +63,7 @@ walks_nb : (bits l : ℕ) (a : Air) (x : Act) (p : Pair) → IsDone l a.nb x →
     → IsSteady bits l p.near.bearer
     → Walks bits l a (InLife (AtNb x)) p
 walks_nb bits l a x p g h k stands steady =
-    let r : Acts Nb l (does a.ue a.nb x) p.far p.near (act_calls l a.ue a.nb x) =
+    let r : Acts Nb l (does a.ue a.nb x) p.far p.near (act_calls l a.ue a.nb x) _ =
     acts Nb Ue l a.nb a.ue p.near p.far x refl h k g in
     let same : pair_lives (in_life_all (steps_at Nb r.deeds)) p
     ≡ record { near = does_all p.far p.near r.deeds; far = p.far } =
@@ -74,7 +74,7 @@ walks_nb bits l a x p g h k stands steady =
           near_living p r.deeds r.done
           (subst (AreAccepted p.near.bearer) (sym r.calls_are)
           (act_accepted l a.ue a.nb x p.near.bearer h.bearer_is));
-      nb = subst (λ (q : Pair). Matches Nb l (does a.ue a.nb x) q.near) (sym same) r.matches;
+      nb = subst (λ (q : Pair). Matches Nb l (does a.ue a.nb x) q.near) (sym same) r.now.matches;
       ue = subst (λ (q : Pair). Matches Ue l a.ue q.far) (sym same) k;
       nb_does = near_does p r.deeds ∙ ap as_steps r.calls_are ∙ sym (act_steps l a.ue a.nb x g);
       ue_does = far_rests p r.deeds;
@@ -91,7 +91,7 @@ walks_ue : (bits l : ℕ) (a : Air) (x : Act) (p : Pair) → IsDone l a.ue x →
     → IsSteady bits l p.far.bearer
     → Walks bits l a (InLife (AtUe x)) p
 walks_ue bits l a x p g h k stands steady =
-    let r : Acts Ue l (does a.nb a.ue x) p.near p.far (act_calls l a.nb a.ue x) =
+    let r : Acts Ue l (does a.nb a.ue x) p.near p.far (act_calls l a.nb a.ue x) _ =
     acts Ue Nb l a.ue a.nb p.far p.near x refl k h g in
     let same : pair_lives (in_life_all (steps_at Ue r.deeds)) p
     ≡ record { near = p.near; far = does_all p.near p.far r.deeds } =
@@ -102,7 +102,7 @@ walks_ue bits l a x p g h k stands steady =
           far_living p r.deeds r.done
           (subst (AreAccepted p.far.bearer) (sym r.calls_are) (act_accepted l a.nb a.ue x p.far.bearer k.bearer_is));
       nb = subst (λ (q : Pair). Matches Nb l a.nb q.near) (sym same) h;
-      ue = subst (λ (q : Pair). Matches Ue l (does a.nb a.ue x) q.far) (sym same) r.matches;
+      ue = subst (λ (q : Pair). Matches Ue l (does a.nb a.ue x) q.far) (sym same) r.now.matches;
       nb_does = near_rests p r.deeds;
       ue_does = far_does p r.deeds ∙ ap as_steps r.calls_are ∙ sym (act_steps l a.nb a.ue x g);
       down_is = far_hears p r.deeds ∙ (ap hears r.calls_are ∙ act_hears l a.nb a.ue x);

@@ -17,7 +17,7 @@ use Rattle.law_rlc.specs.AmReceiver.Run.{Arrive as Hears}
 use Rattle.law_words.specs.Passing.{Comes, come_as, with_passings}
 use Rattle.law_rlc.specs.AmArrival.Arrival.{passed}
 use Rattle.law_words.specs.Arrivals.{AccountEntry, Passes, Account, accounted}
-use Rattle.law_rlc.specs.AmPair.Flow.{Copy}
+use Rattle.law_rlc.specs.AmPair.Flow.{Copy, Report}
 use Rattle.law_pdcp.specs.AmPair.Flow.{run_am_pdcp}
 use Rattle.law_rlc.specs.AmPair.Statuses.{reduced}
 use Rattle.bearer_pdcp.specs.Ends.{Ends}
@@ -31,7 +31,7 @@ use Rattle.law_bearer.specs.AmBearer.Deeds.{go_up, confirms_first, hands_first, 
 use Rattle.law_bearer.specs.AmBearer.Calls.{only_if, settles as settles_now, hands_up, settles_by, confirms_all}
 use Rattle.law_bearer.specs.AmBearer.Calls.{arrives as arrive_deeds, AreDeeds}
 use Rattle.law_bearer.proofs.AmBearer.Calls.{calls_are_deeds}
-use Rattle.law_deliver.specs.AmFlow.Pair.{SentStatus, BearerEnd, Deed as EndDeed, DataComes, StatusComes, acknowledged}
+use Rattle.law_deliver.specs.AmFlow.Pair.{BearerEnd, Deed as EndDeed, DataComes, StatusComes, acknowledged}
 use Rattle.law_deliver.specs.AmFlow.Pair.{called, arrives, data_comes, status_comes, does, Calls, DataGoes, StatusGoes}
 use Rattle.law_deliver.specs.AmFlow.Flows.{HasFlow}
 use Rattle.law_deliver.proofs.AmFlow.Flows.{data_read, status_read}
@@ -208,24 +208,23 @@ silently w a octets pdu read x = record {
 }
 
 -- a STATUS that it wrote
-status_goes : (bits : ℕ) (out inn : Way) (e o : BearerEnd) (k : ℕ) (x : Option SentStatus) → slice_get o.reports k ≡ x
+status_goes : (bits : ℕ) (out inn : Way) (e o : BearerEnd) (k : ℕ) (x : Option Report) → slice_get o.reports k ≡ x
     → JoinedEnds bits out inn e o
     → EndsGoOn bits out inn (status_comes e x) o [] (ups_by e.bearer (call_of x)) [] (heard_by (call_of x))
 status_goes bits out inn e o k None at h = none_comes bits out inn e o h
 status_goes bits out inn e o k (Some s) at h =
     let b = e.bearer in
     let r = status_read out.sending out.receiving e o (flow_of_way out e o h.out_is h.out_joins) k s at in
-    let pdu : StatusPdu = reduced r.report in
+    let pdu : StatusPdu = reduced s in
     let d : BearerEnd = with_bearer e (deed_does b (Sends (Status pdu))) in
     let places = (after_status b.tx pdu).accounts.news in
     let last : List Deed = settles_by (heard_status b.tx pdu) (confirms_places places b.pdcp) in
     let rest : List Deed = confirms_all places ++ last in
-    let read : am_at s.octets ≡ Ok (Control pdu) = ap am_at (sym r.same) ∙ r.read in
     let first : GoesBetween bits out inn d o [] (Passes (Comes s.octets) ∷ []) =
     both_go bits out inn e d o [] (between_of bits out inn e o h)
-    (status_arrives out k r.report pdu (standing e o) h.out_is r.at r.read (meets_as out e o h.out_joins))
-    (silently inn (standing o e) s.octets pdu read (rests inn (standing o e) (meets_as inn o e h.inn_joins))) in
-    as_called bits out inn e o s.octets (Ok (Control pdu)) read h
+    (status_arrives out k s pdu (standing e o) h.out_is r.at r.read (meets_as out e o h.out_joins))
+    (silently inn (standing o e) s.octets pdu r.read (rests inn (standing o e) (meets_as inn o e h.inn_joins))) in
+    as_called bits out inn e o s.octets (Ok (Control pdu)) r.read h
     (then_goes bits out inn d (with_bearer d (does_all rest d.bearer)) o [] (go_up rest d.bearer) first
     (λ v w n. deeds_go bits rest
     (all_confirm bits places last (all_settle bits (heard_status b.tx pdu) (confirms_places places b.pdcp))) v w d

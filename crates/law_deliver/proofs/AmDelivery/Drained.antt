@@ -7,7 +7,7 @@ use Rattle.std.proofs.lemmas.List.{length-map}
 use Rattle.law_bearer.specs.AmBearer.Calls.{IsIdle}
 use Rattle.law_bearer.specs.AmBearer.Lives.{protection_at}
 use Rattle.law_words.specs.Arrivals.{AccountEntry}
-use Rattle.law_rlc.specs.AmPair.Flow.{Copy, sender}
+use Rattle.law_rlc.specs.AmPair.Flow.{Copy, Report, sender}
 use Rattle.law_rlc.specs.AmPair.Sdus.{offered, handed_up, ready}
 use Rattle.law_rlc.proofs.AmPair.Laws.{hands-up-all, next-is-ready}
 use Rattle.law_pdcp.proofs.AmPair.InStep.{delivers_all}
@@ -31,7 +31,7 @@ use Rattle.pdcp_tx.specs.declared.sender.Next.{Next}
 use Rattle.pdcp_tx.specs.State.{State as Sending, Offer, offers, owed_offers, again_offer, refusal, left as pdcp_left}
 use Rattle.rlc_am_rx.specs.State.{State as Hearing}
 use Rattle.rlc_am_tx.specs.Need.{left as rlc_left}
-use Rattle.law_deliver.specs.AmFlow.Pair.{SentStatus, BearerEnd, Pair, Deed, Calls as Asks, DataComes}
+use Rattle.law_deliver.specs.AmFlow.Pair.{BearerEnd, Pair, Deed, Calls as Asks, DataComes}
 use Rattle.law_deliver.specs.AmFlow.Pair.{StatusComes, DataGoes, StatusGoes, Near, Far, Passes, HasOctet}
 use Rattle.law_deliver.specs.AmFlow.Pair.{am_pair_outset}
 use Rattle.law_deliver.specs.AmDelivery.Drained.{IsDrained, AllAreUp, DrainedHasDelivered}
@@ -113,7 +113,7 @@ data_some : (o : Option Copy) → AllByRecursion HasOctet (submitted_by (call_by
 data_some None = tt
 data_some (Some c) = tt
 
-status_some : (o : Option SentStatus) → AllByRecursion HasOctet (submitted_by (call_of o))
+status_some : (o : Option Report) → AllByRecursion HasOctet (submitted_by (call_of o))
 status_some None = tt
 status_some (Some s) = tt
 

@@ -1,13 +1,15 @@
 -- What is under way is let go, and a TTI ends.
 use Rattle.std.proofs.Common.{◌≡◌, ℕ, List, [], ◌∷◌, map, refl, ap, sym, subst, ◌∙◌}
 use Rattle.std.specs.List.{AllByRecursion}
-use Rattle.law_rlc.specs.AmPair.Flow.{DataGoes as LetsDataGo, StatusGoes as LetsStatusGo, Passes as TtiPasses, except}
+use Rattle.law_rlc.specs.AmPair.Flow.{Report, DataGoes as LetsDataGo, StatusGoes as LetsStatusGo, Passes as TtiPasses}
+use Rattle.law_rlc.specs.AmPair.Flow.{except}
 use Rattle.law_rlc.specs.AmPair.Flow.{happens as rlc_happens}
 use Rattle.law_bearer.specs.AmBearer.Calls.{IsOfData, IsIdle}
 use Rattle.law_pdcp.specs.AmPair.Flow.{Flow as Pdcp}
-use Rattle.law_deliver.specs.AmFlow.Pair.{SentStatus, BearerEnd, Pair, Passes, older, passed, IsYoung, IsGiven}
+use Rattle.law_deliver.specs.AmFlow.Pair.{BearerEnd, Pair, Passes, older, passed, IsGiven}
+use Rattle.law_rlc.specs.AmPair.Given.{IsYoung}
 use Rattle.law_deliver.specs.AmFlow.Flows.{IsFlow}
-use Rattle.law_deliver.proofs.AmFlow.Flows.{let_go, ages, are_young}
+use Rattle.law_deliver.proofs.AmFlow.Flows.{ages}
 use Rattle.law_deliver.specs.AmDelivery.Lives.{InLife}
 use Rattle.law_deliver.proofs.AmDelivery.Joined.{Way, IsWay, Joins, JoinedPair, rlc, pdcp}
 use Rattle.law_deliver.proofs.AmDelivery.Ways.{with_more}
@@ -50,7 +52,7 @@ status_goes bits out inn e o k h =
       sender_is = f.sender_is;
       receiver_is = f.receiver_is;
       copies_are = f.copies_are;
-      reports_are = let_go k (rlc inn).reports ∙ ap (except k) f.reports_are;
+      reports_are = ap (except k) f.reports_are;
       busy_is = f.busy_is;
     } in
     inn_goes_on bits out inn e o d (LetsStatusGo k ∷ []) h
@@ -72,7 +74,7 @@ passes_move w e o h joins young =
       busy_is = refl;
     } in
     rlc_moves w TtiPasses e o (passed e) (passed o) h joins
-    (are_young (rlc w).reports (subst (λ (l : List SentStatus). AllByRecursion IsYoung l) (sym f.reports_are) young))
+    (subst (λ (l : List Report). AllByRecursion IsYoung l) (sym f.reports_are) young)
     (record { stays = refl; none = refl }) refl flow refl refl
 
 pub passes_go_on : (bits : ℕ) (down up : Way) (p : Pair) → JoinedPair bits down up p → IsGiven p Passes

@@ -7,7 +7,7 @@ use Rattle.pdcp_tx.specs.State.{State as Sending}
 use Rattle.pdcp_rx.specs.State.{State as Receiving}
 use Rattle.rlc_am_tx.specs.Machine.{State as Sender}
 use Rattle.rlc_am_rx.specs.State.{State as Receiver}
-use Rattle.law_rlc.specs.AmPair.Flow.{Copy, Flow as Rlc, Step as RlcStep, goes as rlc_goes}
+use Rattle.law_rlc.specs.AmPair.Flow.{Copy, Report, Flow as Rlc, Step as RlcStep, goes as rlc_goes}
 use Rattle.law_rlc.specs.AmPair.Given.{AreGiven as AreGivenSteps}
 use Rattle.law_rlc.specs.AmPair.Sdus.{offered, handed_up}
 use Rattle.law_rlc.specs.AmPair.Arrives.{arrives}
@@ -15,7 +15,7 @@ use Rattle.law_pdcp.specs.AmPair.Flow.{Flow as Pdcp, Event, run_am_pdcp, AreGive
 use Rattle.law_words.specs.Passing.{with_passings}
 use Rattle.law_rlc.specs.AmArrival.Arrival.{passed}
 use Rattle.law_words.specs.Arrivals.{AccountEntry, account}
-use Rattle.law_deliver.specs.AmFlow.Pair.{SentStatus, BearerEnd}
+use Rattle.law_deliver.specs.AmFlow.Pair.{BearerEnd}
 use Rattle.law_deliver.proofs.AmFlow.Standing.{Stands}
 use Rattle.law_deliver.proofs.AmFlow.Flows.{stands_as, is_flow}
 use Rattle.law_deliver.proofs.AmDelivery.Joined.{Way, IsWay, rlc, pdcp, Joins, IsReportOf, Reports}
@@ -30,7 +30,7 @@ pub record Standing : Type 0 where
   pub sending : Sending
   pub receiving : Receiving
   pub copies : List Copy
-  pub reports : List SentStatus
+  pub reports : List Report
   pub busy : Bool
 
 abbrev pub standing : BearerEnd → BearerEnd → Standing

@@ -16,9 +16,9 @@ use Rattle.law_bearer.specs.AmBearer.Deeds.{does_all}
 use Rattle.law_bearer.specs.AmBearer.Lives.{restarts}
 use Rattle.law_bearer.proofs.AmBearer.Calls.{calls_are_deeds}
 use Rattle.law_bearer.proofs.AmBearer.Lives.{restarts_are_deeds, first_life_begins}
-use Rattle.law_rlc.specs.AmPair.Flow.{Copy}
+use Rattle.law_rlc.specs.AmPair.Flow.{Copy, Report}
 use Rattle.law_deliver.proofs.AmFlow.Sending.{is_called}
-use Rattle.law_deliver.specs.AmFlow.Pair.{SentStatus, BearerEnd, Pair, Deed, Calls as Asks, DataComes, StatusComes}
+use Rattle.law_deliver.specs.AmFlow.Pair.{BearerEnd, Pair, Deed, Calls as Asks, DataComes, StatusComes}
 use Rattle.law_deliver.specs.AmFlow.Pair.{DataGoes}
 use Rattle.law_deliver.specs.AmFlow.Pair.{StatusGoes, Step, Near, Far, Passes, called, data_comes, status_comes, does}
 use Rattle.law_deliver.specs.AmFlow.Pair.{happens, am_pair_outset}
@@ -37,7 +37,7 @@ data_turns : (e : BearerEnd) (x : Option Copy) → Turns e.bearer (call_by x) (d
 data_turns e None = refl
 data_turns e (Some c) = refl
 
-status_turns : (e : BearerEnd) (x : Option SentStatus) → Turns e.bearer (call_of x) (status_comes e x).bearer
+status_turns : (e : BearerEnd) (x : Option Report) → Turns e.bearer (call_of x) (status_comes e x).bearer
 status_turns e None = refl
 status_turns e (Some s) = refl
 

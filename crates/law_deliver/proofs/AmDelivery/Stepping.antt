@@ -1,9 +1,9 @@
 -- Each step of a life brings both ways on, where each PDU that comes does.
 use Rattle.std.proofs.Common.{◌≡◌, ℕ, List, [], Option, Some, None, slice_get, refl, subst}
 use Rattle.law_words.specs.Arrivals.{AccountEntry}
-use Rattle.law_rlc.specs.AmPair.Flow.{Copy}
+use Rattle.law_rlc.specs.AmPair.Flow.{Copy, Report}
 use Rattle.bearer.specs.Acknowledged.State.{State}
-use Rattle.law_deliver.specs.AmFlow.Pair.{SentStatus, BearerEnd, Pair, Deed, Calls, DataComes, StatusComes, DataGoes}
+use Rattle.law_deliver.specs.AmFlow.Pair.{BearerEnd, Pair, Deed, Calls, DataComes, StatusComes, DataGoes}
 use Rattle.law_deliver.specs.AmFlow.Pair.{StatusGoes, Near, Far, Passes, does, happens, IsDone}
 use Rattle.law_deliver.specs.AmDelivery.Arrival.{said_by, heard_by}
 use Rattle.law_deliver.specs.AmDelivery.Lives.{InLife, MayBeDone, call_by, call_of, calls_in, news_by, ups_by}
@@ -28,7 +28,7 @@ data_news : (b : State) (x : Option Copy) → [] ≡ news_by b (call_by x)
 data_news b None = refl
 data_news b (Some c) = refl
 
-status_news : (b : State) (x : Option SentStatus) → [] ≡ news_by b (call_of x)
+status_news : (b : State) (x : Option Report) → [] ≡ news_by b (call_of x)
 status_news b None = refl
 status_news b (Some s) = refl
 
@@ -36,7 +36,7 @@ data_said : (b : State) (x : Option Copy) → [] ≡ said_by b (call_by x)
 data_said b None = refl
 data_said b (Some c) = refl
 
-status_said : (b : State) (x : Option SentStatus) → [] ≡ said_by b (call_of x)
+status_said : (b : State) (x : Option Report) → [] ≡ said_by b (call_of x)
 status_said b None = refl
 status_said b (Some s) = refl
 

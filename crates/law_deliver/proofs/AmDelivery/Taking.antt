@@ -32,7 +32,8 @@ use Rattle.law_bearer.specs.AmBearer.Deeds.{Deed, Feeds, Sends, Receives, does, 
 use Rattle.law_bearer.specs.AmBearer.Calls.{only_if, takes, IsOfData, IsIdle}
 use Rattle.law_bearer.proofs.AmBearer.Calls.{calls_are_deeds}
 use Rattle.law_bearer.proofs.AmBearer.Ups.{does_then}
-use Rattle.law_rlc.specs.AmPair.Flow.{Copy, Flow as Rlc, Sends as SendsOn, Reports as ReportsOn, Step as RlcStep}
+use Rattle.law_rlc.specs.AmPair.Flow.{Copy, Report, Flow as Rlc, Sends as SendsOn, Reports as ReportsOn}
+use Rattle.law_rlc.specs.AmPair.Flow.{Step as RlcStep}
 use Rattle.law_rlc.specs.AmPair.Flow.{sender, happens as rlc_happens, is_new, copies_with}
 use Rattle.law_rlc.specs.AmPair.Given.{IsTaking as IsTakingStep, IsHeld}
 use Rattle.law_rlc.proofs.AmPair.Runs.{receiver-more}
@@ -55,10 +56,10 @@ use Rattle.bearer.specs.declared.flow.Flow.{Flow}
 use Rattle.rlc_pdu.specs.declared.Taken.{Taken}
 use Rattle.law_bearer.specs.AnyBearer.Calls.{Take as TakeCall, after, ends}
 use Rattle.law_bearer.specs.AnyBearer.Queue.{news, off, queue}
-use Rattle.law_deliver.specs.AmFlow.Pair.{SentStatus, written_now, HasOctet, IsTaking, BearerEnd, acknowledged, called}
+use Rattle.law_deliver.specs.AmFlow.Pair.{written_now, reports_now, HasOctet, IsTaking, BearerEnd, acknowledged, called}
 use Rattle.law_deliver.specs.AmFlow.Pair.{calls}
 use Rattle.law_deliver.specs.AmFlow.Flows.{IsFlow}
-use Rattle.law_deliver.proofs.AmFlow.Hearing.{is_reported}
+use Rattle.law_deliver.proofs.AmFlow.Hearing.{is_reported, reports_with}
 use Rattle.law_deliver.proofs.AmFlow.Standing.{or_none}
 use Rattle.law_deliver.specs.AmDelivery.Arrival.{said_in}
 use Rattle.promises.specs.Given.{entries_of, entries_given, entries_passed, entries_written}
@@ -274,7 +275,7 @@ all_fed bits out inn e o (x ∷ os) rest h q some =
 abbrev writes : Bool → ℕ → BearerEnd → BearerEnd
 writes due share e = record e {
   bearer = record e.bearer { rx = if due then written_by e.bearer.rx else e.bearer.rx };
-  reports = map written_now (if due then status_pdu e.bearer.rx share ∷ [] else []) ++ e.reports;
+  reports = map (written_now e.bearer.rx share) (if due then status_pdu e.bearer.rx share ∷ [] else []) ++ e.reports;
 }
 
 status_flow : (e o : BearerEnd) (f : Rlc) (share : ℕ) → IsFlow o e f
@@ -283,7 +284,7 @@ status_flow e o f share h = record {
   sender_is = h.sender_is;
   receiver_is = ap (λ (w : ReceiverWorld). w.state) (receiver-more f Write) ∙ ap written_by h.receiver_is;
   copies_are = h.copies_are;
-  reports_are = ap (λ (l : List SentStatus). written_now (status_pdu e.bearer.rx share) ∷ l) h.reports_are;
+  reports_are = reports_with f share (status_pdu e.bearer.rx share) e.bearer.rx e.reports h.receiver_is h.reports_are;
   busy_is = h.busy_is;
 }
 
@@ -370,7 +371,7 @@ taken_is : (bits : ℕ) (e : BearerEnd) (share : ℕ) (held : Option ℕ) → Is
     → taken_by share held e ≡ calls e (TakeCall share held)
 taken_is bits e share held h idle tx =
     let b = e.bearer in
-    let reports = map written_now (status_pdus b.rx share) ++ e.reports in
+    let reports = reports_now b.rx share ++ e.reports in
     let d = does (fed b share held) (sends_last b share held) in
     let given : answer (fed b share held).tx (data_size b share) held (has_more_behind b share held)
     ≡ data_given b share held =
@@ -380,7 +381,7 @@ taken_is bits e share held h idle tx =
     ∙ ap (λ (x : State). the_end x (copies_with (data_given b share held) e.copies) reports
     (e.busy || is_new (data_given b share held))) left
   where
-    the_end : State → List Copy → List SentStatus → Bool → BearerEnd
+    the_end : State → List Copy → List Report → Bool → BearerEnd
     the_end bearer copies reports busy = record { bearer = bearer; copies = copies; reports = reports; busy = busy }
 
 news_are : (bits : ℕ) (b : State) (share : ℕ) (held : Option ℕ) (taken : List (List ℕ)) → IsOfData bits b → IsIdle b

@@ -12,7 +12,7 @@ use Rattle.law_rlc.specs.AmSender.Octets.{segment_of}
 use Rattle.law_rlc.specs.AmPair.Flow.{Copy, Report, Flow, DataGoes as LetsDataGo, StatusGoes as LetsStatusGo}
 use Rattle.law_rlc.specs.AmPair.Flow.{Passes as TtiPasses, sender, receiver, except, older as older_reports}
 use Rattle.law_rlc.specs.AmPair.Flow.{goes as flow_goes, am_rlc_outset}
-use Rattle.law_rlc.specs.AmPair.Given.{IsYoung as IsYoungReport}
+use Rattle.law_rlc.specs.AmPair.Given.{IsYoung}
 use Rattle.law_rlc.specs.AmPair.Statuses.{IsReadRight, reduced}
 use Rattle.law_rlc.proofs.AmPair.Reading.{read_as, stretch-read}
 use Rattle.law_rlc.proofs.AmPair.Sound.{IsTrueCopy, IsSound}
@@ -20,13 +20,13 @@ use Rattle.law_rlc.proofs.AmPair.Laws.{sound, reads-each-number}
 use Rattle.law_rlc.proofs.AmArrival.Coming.{never_clashes}
 use Rattle.bearer.specs.Acknowledged.State.{State}
 use Rattle.law_bearer.specs.AnyBearer.Acknowledged.{status_heard, data_heard}
-use Rattle.law_deliver.specs.AmFlow.Pair.{SentStatus, BearerEnd, Pair, Deed, Calls, DataComes, StatusComes, DataGoes}
+use Rattle.law_deliver.specs.AmFlow.Pair.{BearerEnd, Pair, Deed, Calls, DataComes, StatusComes, DataGoes}
 use Rattle.law_deliver.specs.AmFlow.Pair.{StatusGoes, Step, Near, Far, Passes, arrives, data_comes, status_comes, does}
-use Rattle.law_deliver.specs.AmFlow.Pair.{older, passed, happens, goes, am_pair_outset, begins, IsYoung, IsDone}
+use Rattle.law_deliver.specs.AmFlow.Pair.{older, passed, happens, goes, am_pair_outset, begins, IsDone}
 use Rattle.law_deliver.specs.AmFlow.Pair.{IsGiven}
 use Rattle.law_deliver.specs.AmFlow.Pair.{AreGiven}
-use Rattle.law_deliver.specs.AmFlow.Flows.{sent_as, IsFlow, HasFlow, BeginsLife, HasFlows}
-use Rattle.law_deliver.proofs.AmFlow.Standing.{Stands, Goes, given_more, goes_more, stays, steps_once, at_place}
+use Rattle.law_deliver.specs.AmFlow.Flows.{IsFlow, HasFlow, BeginsLife, HasFlows}
+use Rattle.law_deliver.proofs.AmFlow.Standing.{Stands, Goes, given_more, goes_more, stays, steps_once}
 use Rattle.law_deliver.proofs.AmFlow.Sending.{calls_send, data_sends, status_sends}
 use Rattle.law_deliver.proofs.AmFlow.Hearing.{calls_hear, data_hears, status_hears}
 
@@ -95,20 +95,18 @@ data_read a b e o m k c q =
     ap am_at t.is ∙ stretch-read c.number t.poll ps t.from t.to (h.aired c.number t.known) t.some t.within in
     record { at = here; pdu = pdu; read = read; clashes = never_clashes f c pdu h t read }
 
-pub record ReadsStatus (f : Flow) (k : ℕ) (s : SentStatus) : Type 0 where
-  pub report : Report
-  pub at : slice_get f.reports k ≡ Some report
-  pub same : report.octets ≡ s.octets
-  pub read : am_at report.octets ≡ Ok (Control (reduced report))
+pub record ReadsStatus (f : Flow) (k : ℕ) (r : Report) : Type 0 where
+  pub at : slice_get f.reports k ≡ Some r
+  pub read : am_at r.octets ≡ Ok (Control (reduced r))
 
-pub status_read : (a : AmTxConfig) (b : AmRxConfig) (e o : BearerEnd) (m : HasFlow a b e o) (k : ℕ) (s : SentStatus)
-    → slice_get o.reports k ≡ Some s → ReadsStatus (reached a b e o m) k s
-status_read a b e o m k s q =
+pub status_read : (a : AmTxConfig) (b : AmRxConfig) (e o : BearerEnd) (m : HasFlow a b e o) (k : ℕ) (r : Report)
+    → slice_get o.reports k ≡ Some r → ReadsStatus (reached a b e o m) k r
+status_read a b e o m k r q =
     let f = reached a b e o m in
-    let here = at_place sent_as f.reports k s (ap (λ (l : List SentStatus). slice_get l k) m.is.reports_are ∙ q) in
-    let right : IsReadRight (sender f).state here.0 =
-    all_at (IsReadRight (sender f).state) f.reports k here.0 (reads-each-number a b m.steps m.given) here.1 in
-    record { report = here.0; at = here.1; same = ap (λ (x : SentStatus). x.octets) here.2; read = right.reads }
+    let here : slice_get f.reports k ≡ Some r = ap (λ (l : List Report). slice_get l k) m.is.reports_are ∙ q in
+    let right : IsReadRight (sender f).state r =
+    all_at (IsReadRight (sender f).state) f.reports k r (reads-each-number a b m.steps m.given) here in
+    record { at = here; read = right.reads }
 
 -- ---- at the end that sends
 
@@ -121,15 +119,13 @@ sends_data a c b d e o k m n (Some y) q =
     (data_sends e y.octets (reached a b e o m) o.bearer.rx o.reports (ap status_heard r.read)
     (stands_so a b e o m))
 
-sends_status : (a : AmTxConfig) (b : AmRxConfig) (e o : BearerEnd) (k : ℕ) → HasFlow a b e o → (x : Option SentStatus)
+sends_status : (a : AmTxConfig) (b : AmRxConfig) (e o : BearerEnd) (k : ℕ) → HasFlow a b e o → (x : Option Report)
     → slice_get o.reports k ≡ x → HasFlow a b (status_comes e x) o
 sends_status a b e o k m None q = m
 sends_status a b e o k m (Some s) q =
     let r = status_read a b e o m k s q in
-    subst (λ (octets : List ℕ). HasFlow a b (arrives e octets) o) r.same
-    (brings a b e o (arrives e r.report.octets) o m
-    (status_sends e (reached a b e o m) k r.report (reduced r.report) o.bearer.rx o.reports r.at r.read
-    (stands_so a b e o m)))
+    brings a b e o (arrives e s.octets) o m
+    (status_sends e (reached a b e o m) k s (reduced s) o.bearer.rx o.reports r.at r.read (stands_so a b e o m))
 
 sends_on : (a c : AmTxConfig) (b d : AmRxConfig) (e o : BearerEnd) (x : Deed) → IsDone e x → HasFlow a b e o
     → HasFlow c d o e → HasFlow a b (does o e x) o
@@ -164,19 +160,13 @@ hears_data c d e o k n (Some y) q =
     (data_hears e (reached c d o e n) k y r.pdu o.bearer.tx o.copies o.busy r.at r.read (stands_so c d o e n))
 
 hears_status : (a c : AmTxConfig) (b d : AmRxConfig) (e o : BearerEnd) (k : ℕ) → HasFlow a b e o → HasFlow c d o e
-    → (x : Option SentStatus) → slice_get o.reports k ≡ x → HasFlow c d o (status_comes e x)
+    → (x : Option Report) → slice_get o.reports k ≡ x → HasFlow c d o (status_comes e x)
 hears_status a c b d e o k m n None q = n
 hears_status a c b d e o k m n (Some s) q =
     let r = status_read a b e o m k s q in
-    subst (λ (octets : List ℕ). HasFlow c d o (arrives e octets)) r.same
-    (brings c d o e o (arrives e r.report.octets) n
-    (status_hears e r.report.octets (reached c d o e n) o.bearer.tx o.copies o.busy (ap data_heard r.read)
-    (stands_so c d o e n)))
-
-pub let_go : (k : ℕ) (rs : List Report) → map sent_as (except k rs) ≡ except k (map sent_as rs)
-let_go k [] = refl
-let_go zero (r ∷ rs) = refl
-let_go (suc k) (r ∷ rs) = ap (λ (l : List SentStatus). sent_as r ∷ l) (let_go k rs)
+    brings c d o e o (arrives e s.octets) n
+    (status_hears e s.octets (reached c d o e n) o.bearer.tx o.copies o.busy (ap data_heard r.read)
+    (stands_so c d o e n))
 
 hears_on : (a c : AmTxConfig) (b d : AmRxConfig) (e o : BearerEnd) (x : Deed) → IsDone e x → HasFlow a b e o
     → HasFlow c d o e → HasFlow c d o (does o e x)
@@ -196,19 +186,15 @@ hears_on a c b d e o (StatusGoes k) g m n =
       sender_is = h.sender_is;
       receiver_is = h.receiver_is;
       copies_are = h.copies_are;
-      reports_are = let_go k f.reports ∙ ap (except k) h.reports_are;
+      reports_are = ap (except k) h.reports_are;
       busy_is = h.busy_is;
     }))
 
 -- ---- a TTI passes
 
-pub ages : (rs : List Report) → map sent_as (older_reports rs) ≡ map older (map sent_as rs)
+pub ages : (rs : List Report) → older_reports rs ≡ map older rs
 ages [] = refl
-ages (r ∷ rs) = ap (λ (l : List SentStatus). older (sent_as r) ∷ l) (ages rs)
-
-pub are_young : (rs : List Report) → AllByRecursion IsYoung (map sent_as rs) → AllByRecursion IsYoungReport rs
-are_young [] h = tt
-are_young (r ∷ rs) h = (h.0, are_young rs h.1)
+ages (r ∷ rs) = ap (λ (l : List Report). older r ∷ l) (ages rs)
 
 passes_on : (a : AmTxConfig) (b : AmRxConfig) (e o : BearerEnd) → AllByRecursion IsYoung o.reports → HasFlow a b e o
     → HasFlow a b (passed e) (passed o)
@@ -217,7 +203,7 @@ passes_on a b e o young m =
     let h = stands_so a b e o m in
     brings a b e o (passed e) (passed o) m
     (steps_once f TtiPasses e.bearer.tx o.bearer.rx e.copies (map older o.reports) false
-    (are_young f.reports (subst (λ (l : List SentStatus). AllByRecursion IsYoung l) (sym h.reports_are) young))
+    (subst (λ (l : List Report). AllByRecursion IsYoung l) (sym h.reports_are) young)
     (record {
       sender_is = h.sender_is;
       receiver_is = h.receiver_is;

@@ -12,7 +12,8 @@ use Rattle.rlc_am_rx.specs.Machine.{written}
 use Rattle.rlc_am_rx.specs.Status.{ack, nacks}
 use Rattle.law_rlc.specs.AmReceiver.Run.{Call as ReceiverCall, Arrive as Hears, Up, Write, ExpireReorder}
 use Rattle.law_rlc.specs.AmReceiver.Run.{ExpireProhibit, TickReorder, TickProhibit, World as ReceiverWorld, state_after}
-use Rattle.law_rlc.specs.AmPair.Flow.{Copy, Flow, Receives, Reports, DataComes, receiver, receives, data_read}
+use Rattle.law_rlc.specs.AmPair.Flow.{Copy, Report, Flow, Receives, Reports, DataComes, receiver, receives, reports}
+use Rattle.law_rlc.specs.AmPair.Flow.{data_read}
 use Rattle.law_rlc.specs.AmPair.Flow.{data_comes}
 use Rattle.law_rlc.specs.AmPair.Given.{IsReceiving, IsReporting}
 use Rattle.law_rlc.proofs.AmPair.Runs.{receiver-more}
@@ -22,13 +23,13 @@ use Rattle.law_bearer.specs.AnyBearer.Calls.{Call, Submit, Take, Arrive, Expire,
 use Rattle.law_bearer.specs.AnyBearer.Acknowledged.{hears_on, data_heard, receiver_calls, IsOfReceiver, ReceiverGoes}
 use Rattle.law_bearer.proofs.AnyBearer.ReceiverCalls.{receiver_goes_on}
 use Rattle.law_node.proofs.Reading.{octets_again, octets_small, whole_octets_of}
-use Rattle.law_deliver.specs.AmFlow.Pair.{SentStatus, called, status_by, written_now, IsCalling, BearerEnd}
+use Rattle.law_deliver.specs.AmFlow.Pair.{called, status_by, written_now, IsCalling, BearerEnd}
 use Rattle.law_deliver.proofs.AmFlow.Standing.{Stands, Goes, stays, steps_once, goes_on}
 use Rattle.law_deliver.proofs.AmFlow.Sending.{is_called}
 
 -- ---- one call of the receiver
 
-pub receives_one : (f : Flow) (c : ReceiverCall) (tx : Sender) (rx : Receiver) (cs : List Copy) (rs : List SentStatus)
+pub receives_one : (f : Flow) (c : ReceiverCall) (tx : Sender) (rx : Receiver) (cs : List Copy) (rs : List Report)
     (b : Bool)
     → Stands tx rx cs rs b f → Stands tx (state_after rx c) cs rs b (receives f c)
 receives_one f c tx rx cs rs b h = record {
@@ -49,7 +50,7 @@ own_is ExpireProhibit own = tt
 own_is TickReorder own = tt
 own_is TickProhibit own = tt
 
-own_all : (own : List ReceiverCall) (f : Flow) (tx : Sender) (rx : Receiver) (cs : List Copy) (rs : List SentStatus)
+own_all : (own : List ReceiverCall) (f : Flow) (tx : Sender) (rx : Receiver) (cs : List Copy) (rs : List Report)
     (b : Bool)
     → AllByRecursion IsOfReceiver own → Stands tx rx cs rs b f → Goes f tx (hears_on own rx) cs rs b
 own_all [] f tx rx cs rs b are h = stays f tx rx cs rs b h
@@ -60,7 +61,7 @@ own_all (c ∷ own) f tx rx cs rs b are h =
 
 -- ---- a call that brings nothing to the receiver and takes nothing from there
 
-pub keeps_to_itself : (f : Flow) (tx : Sender) (rx ry : Receiver) (cs : List Copy) (rs : List SentStatus) (b : Bool)
+pub keeps_to_itself : (f : Flow) (tx : Sender) (rx ry : Receiver) (cs : List Copy) (rs : List Report) (b : Bool)
     → ReceiverGoes rx ry [] → Stands tx rx cs rs b f → Goes f tx ry cs rs b
 keeps_to_itself f tx rx ry cs rs b m h =
     subst (λ (r : Receiver). Goes f tx r cs rs b) (sym m.left) (own_all m.own f tx rx cs rs b m.are_own h)
@@ -79,25 +80,32 @@ is_reported f r share q =
           ∙ ap (λ (x : Receiver). status_written (ack x (share - 3) % 1024) (nacks x (share - 3))) (sym q);
     }
 
-reports_one : (f : Flow) (share : ℕ) (tx : Sender) (rx : Receiver) (cs : List Copy) (rs : List SentStatus) (b : Bool)
-    → Stands tx rx cs rs b f → Goes f tx (written rx) cs (written_now (status_pdu rx share) ∷ rs) b
+pub reports_with : (f : Flow) (share : ℕ) (octets : List ℕ) (rx : Receiver) (rs : List Report)
+    → (receiver f).state ≡ rx → f.reports ≡ rs
+    → (reports f (share - 3) octets).reports ≡ written_now rx share octets ∷ rs
+reports_with f share octets rx rs q p =
+    ap (λ (r : Receiver). written_now r share octets ∷ f.reports) q
+    ∙ ap (λ (l : List Report). written_now rx share octets ∷ l) p
+
+reports_one : (f : Flow) (share : ℕ) (tx : Sender) (rx : Receiver) (cs : List Copy) (rs : List Report) (b : Bool)
+    → Stands tx rx cs rs b f → Goes f tx (written rx) cs (written_now rx share (status_pdu rx share) ∷ rs) b
 reports_one f share tx rx cs rs b h =
     let octets = status_pdu rx share in
-    steps_once f (Reports (share - 3) octets) tx (written rx) cs (written_now octets ∷ rs) b
+    steps_once f (Reports (share - 3) octets) tx (written rx) cs (written_now rx share octets ∷ rs) b
     (is_reported f rx share h.receiver_is) (record {
       sender_is = h.sender_is;
       receiver_is = ap (λ (w : ReceiverWorld). w.state) (receiver-more f Write) ∙ ap written h.receiver_is;
       copies_are = h.copies_are;
-      reports_are = ap (λ (l : List SentStatus). written_now octets ∷ l) h.reports_are;
+      reports_are = reports_with f share octets rx rs h.receiver_is h.reports_are;
       busy_is = h.busy_is;
     })
 
-takes_by : (w : Bool) (f : Flow) (share : ℕ) (tx : Sender) (rx ry : Receiver) (cs : List Copy) (rs : List SentStatus)
+takes_by : (w : Bool) (f : Flow) (share : ℕ) (tx : Sender) (rx ry : Receiver) (cs : List Copy) (rs : List Report)
     (b : Bool)
     → ReceiverGoes rx ry (if w then Write ∷ [] else []) → Stands tx rx cs rs b f
-    → Goes f tx ry cs (map written_now (if w then status_pdu rx share ∷ [] else []) ++ rs) b
+    → Goes f tx ry cs (map (written_now rx share) (if w then status_pdu rx share ∷ [] else []) ++ rs) b
 takes_by true f share tx rx ry cs rs b m h =
-    let ss : List SentStatus = written_now (status_pdu rx share) ∷ rs in
+    let ss : List Report = written_now rx share (status_pdu rx share) ∷ rs in
     subst (λ (r : Receiver). Goes f tx r cs ss b) (sym m.left)
     (goes_on f tx tx (written rx) (hears_on m.own (written rx)) cs cs ss ss b b (reports_one f share tx rx cs rs b h)
     (λ g k. own_all m.own g tx (written rx) cs ss b m.are_own k))
@@ -114,7 +122,7 @@ quiet e d f tx cs b m h = keeps_to_itself f tx e.bearer.rx d.rx cs e.reports b m
 
 pub calls_hear : (e : BearerEnd) (c : Call) (f : Flow) (tx : Sender) (cs : List Copy) (b : Bool) → IsCalling e c
     → Stands tx e.bearer.rx cs e.reports b f
-    → Goes f tx (called e.bearer c).rx cs (map written_now (status_by e.bearer c) ++ e.reports) b
+    → Goes f tx (called e.bearer c).rx cs (status_by e.bearer c ++ e.reports) b
 calls_hear e (Submit sdu) f tx cs b g h =
     quiet e (called e.bearer (Submit sdu)) f tx cs b (called_so e.bearer (Submit sdu)) h
 calls_hear e (Take share held) f tx cs b g h =
@@ -140,7 +148,7 @@ status_hears e octets f tx cs b q h =
     (receiver_goes_on e.bearer d (Arrive octets) (is_called e.bearer (Arrive octets)))) h
 
 data_at : (f : Flow) (k : ℕ) (c : Copy) (pdu : AmdPdu) (tx : Sender) (rx : Receiver) (cs : List Copy)
-    (rs : List SentStatus)
+    (rs : List Report)
     (b : Bool)
     → slice_get f.copies k ≡ Some c → am_at c.octets ≡ Ok (Payload pdu) → Stands tx rx cs rs b f
     → Goes f tx (state_after rx (Hears pdu)) cs rs b

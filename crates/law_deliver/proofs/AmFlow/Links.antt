@@ -53,7 +53,7 @@ ordered_as f tx rx p q h =
     record { least = h.least; bound = h.bound; highest = h.highest; sent = h.sent; window = h.window } in
     subst (λ (r : Receiver). AreOrdered tx r) q (subst (λ (s : Sender). AreOrdered s (receiver f).state) p here)
 
-same_bearer : (f : BearerFlow) (x y : State) → f ≡ Am x → f ≡ Am y → x ≡ y
+pub same_bearer : (f : BearerFlow) (x y : State) → f ≡ Am x → f ≡ Am y → x ≡ y
 same_bearer f x y p q = let same : Am x ≡ Am y = sym p ∙ q in cc
 
 on_channel : (l : ℕ) (a : AmTxConfig) (b : AmRxConfig) (from to : End) (x y : State) → IsFlowOn l a b from to

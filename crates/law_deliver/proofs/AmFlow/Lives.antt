@@ -108,3 +108,26 @@ moves_begin side maximum reports past keys l b g there q =
           restarted_begins (flow_at l e.bearers) keys b (sym (ap (flow_at l) same ∙ moved_flow l e.bearers keys there)
           ∙ q);
     }
+
+-- an acknowledged bearer begins another as its end moves
+restarted_am : (b : State) (keys : Keys) → restarted (stopped (Am b)) keys ≡ Am (am_restarted (am_stopped b) keys)
+unfolding restarted stopped
+restarted_am b keys = refl
+
+pub record BeginsAgain (side : Side) (l : ℕ) (e : End) (keys : Keys) : Type 0 where
+  pub bearer : State
+  pub begins : Begins side l (after e (Move keys)) bearer
+
+pub begins_again : (side : Side) (l : ℕ) (e : End) (b : State) (keys : Keys) → HasCome side e → has l e.bearers ≡ true
+    → flow l e ≡ Am b → BeginsAgain side l e keys
+begins_again side l e b keys come there q =
+    let d : State = am_restarted (am_stopped b) keys in
+    let is : flow l (after e (Move keys)) ≡ Am d =
+    ap (flow_at l) (moved_bearers e keys) ∙ (moved_flow l e.bearers keys there
+    ∙ (ap (λ (f : Flow). restarted (stopped f) keys) q ∙ restarted_am b keys)) in
+    record {
+      bearer = d;
+      begins = subst (λ (x : End). has l x.bearers ≡ true → flow l (after x (Move keys)) ≡ Am d
+          → Begins side l (after x (Move keys)) d) (sym come.end_is)
+          (moves_begin side come.maximum come.reports come.past keys l d come.given) there is;
+    }

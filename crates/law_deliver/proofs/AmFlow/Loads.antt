@@ -2,8 +2,8 @@
 use Rattle.std.proofs.Common.{◌≡◌, ◌<◌, ℕ, zero, suc, ◌+◌, List, [], ◌∷◌, ◌++◌, map, get_or, Option, Some, None}
 use Rattle.std.proofs.Common.{slice_get, append_assoc, refl, ap, sym, subst, ◌∙◌, arith}
 use Rattle.std.specs.List.{AllByRecursion}
-use Rattle.law_rlc.specs.AmPair.Flow.{Copy, except}
-use Rattle.law_rlc.specs.AmPair.Given.{IsHeld as IsAtLeastHeld}
+use Rattle.law_rlc.specs.AmPair.Flow.{Copy, Report, except}
+use Rattle.law_rlc.specs.AmPair.Given.{IsHeld as IsAtLeastHeld, IsYoung as IsYoungReport}
 use Rattle.harq.specs.Sending.{Sending, held_of}
 use Rattle.l2_node.specs.Finding.{Numbers, counted, lowest}
 use Rattle.mac_pdu.specs.declared.item.Direction.{Direction}
@@ -11,7 +11,8 @@ use Rattle.law_node.proofs.Holders.{lowest_least}
 use Rattle.law_node.proofs.Takings.{IsAtLeast}
 use Rattle.law_deliver.specs.AmFlow.Air.{Block, older, IsHeld, IsYoung}
 use Rattle.promises.specs.Pdus.{carried}
-use Rattle.law_deliver.specs.AmFlow.Pair.{SentStatus, older as older_sent, IsYoung as IsYoungSent}
+use Rattle.law_deliver.specs.AmFlow.Carrying.{CarriedPdu, Numbered, Reported}
+use Rattle.law_deliver.specs.AmFlow.Pair.{older as older_sent}
 use Rattle.law_deliver.proofs.AmFlow.Runs.{octets_of, texts_of}
 use Rattle.law_bearer.proofs.AnyBearer.SenderCalls.{all_then}
 
@@ -19,18 +20,28 @@ use Rattle.law_bearer.proofs.AnyBearer.SenderCalls.{all_then}
 pub record Load : Type 0 where
   pub block : Block
   pub copies : List Copy
-  pub reports : List SentStatus
+  pub reports : List Report
 
 abbrev pub all_copies : List Load → List Copy
 all_copies [] = []
 all_copies (x ∷ xs) = x.copies ++ all_copies xs
 
-abbrev pub all_reports : List Load → List SentStatus
+abbrev pub all_reports : List Load → List Report
 all_reports [] = []
 all_reports (x ∷ xs) = x.reports ++ all_reports xs
 
 abbrev pub blocks_in : List Load → List Block
 blocks_in xs = map (λ (x : Load). x.block) xs
+
+-- as they were written
+abbrev pub as_written : Report → CarriedPdu
+as_written r = Reported (record r { age = 0 })
+
+abbrev pub pdus_in : Load → List CarriedPdu
+pdus_in x = map as_written x.reports ++ map (λ (c : Copy). Numbered c) x.copies
+
+abbrev pub all_pdus : List Load → List (List CarriedPdu)
+all_pdus xs = map pdus_in xs
 
 -- the number that an end notes of a channel in the last block of a process
 abbrev pub noted_of : Numbers → ℕ → ℕ → Option ℕ
@@ -39,7 +50,7 @@ noted_of numbers l p = get_or (get_or numbers p []) l None
 abbrev pub IsNoted : Numbers → ℕ → ℕ → Copy → Type 0
 IsNoted numbers l p c = noted_of numbers l p ≡ Some c.number
 
-abbrev pub HasAge : ℕ → SentStatus → Type 0
+abbrev pub HasAge : ℕ → Report → Type 0
 HasAge age r = r.age ≡ age
 
 pub record IsLoad (l : ℕ) (d : Direction) (s : Sending) (numbers : Numbers) (x : Load) : Type 0 where
@@ -53,8 +64,8 @@ pub record IsLoad (l : ℕ) (d : Direction) (s : Sending) (numbers : Numbers) (x
 pub record Split (xs : List Load) (k : ℕ) (x : Load) : Type 0 where
   pub before : List Copy
   pub behind : List Copy
-  pub pre : List SentStatus
-  pub post : List SentStatus
+  pub pre : List Report
+  pub post : List Report
   pub copies_are : all_copies xs ≡ before ++ (x.copies ++ behind)
   pub reports_are : all_reports xs ≡ pre ++ (x.reports ++ post)
   pub fewer_copies : all_copies (except k xs) ≡ before ++ behind
@@ -84,18 +95,22 @@ split_at (y ∷ ys) (suc k) x q =
       post = h.post;
       copies_are = ap (λ (l : List Copy). y.copies ++ l) h.copies_are
           ∙ sym (append_assoc y.copies h.before (x.copies ++ h.behind));
-      reports_are = ap (λ (l : List SentStatus). y.reports ++ l) h.reports_are
+      reports_are = ap (λ (l : List Report). y.reports ++ l) h.reports_are
           ∙ sym (append_assoc y.reports h.pre (x.reports ++ h.post));
       fewer_copies = ap (λ (l : List Copy). y.copies ++ l) h.fewer_copies
           ∙ sym (append_assoc y.copies h.before h.behind);
-      fewer_reports = ap (λ (l : List SentStatus). y.reports ++ l) h.fewer_reports
+      fewer_reports = ap (λ (l : List Report). y.reports ++ l) h.fewer_reports
           ∙ sym (append_assoc y.reports h.pre h.post);
     }
 
+pub except_map : {A : Type 0} {B : Type 0} (f : A → B) (xs : List A) (k : ℕ)
+    → map f (except k xs) ≡ except k (map f xs)
+except_map f [] k = refl
+except_map f (x ∷ xs) zero = refl
+except_map f (x ∷ xs) (suc k) = ap (λ l. f x ∷ l) (except_map f xs k)
+
 pub except_blocks : (xs : List Load) (k : ℕ) → blocks_in (except k xs) ≡ except k (blocks_in xs)
-except_blocks [] k = refl
-except_blocks (x ∷ xs) zero = refl
-except_blocks (x ∷ xs) (suc k) = ap (λ (l : List Block). x.block ∷ l) (except_blocks xs k)
+except_blocks xs k = except_map (λ (x : Load). x.block) xs k
 
 pub except_all : {A : Type 0} (P : A → Type 0) (k : ℕ) (xs : List A) → AllByRecursion P xs
     → AllByRecursion P (except k xs)
@@ -123,24 +138,35 @@ pub aged_copies : (xs : List Load) → all_copies (map aged_load xs) ≡ all_cop
 aged_copies [] = refl
 aged_copies (x ∷ xs) = ap (λ (l : List Copy). x.copies ++ l) (aged_copies xs)
 
-map_more : (rs ss : List SentStatus) → map older_sent (rs ++ ss) ≡ map older_sent rs ++ map older_sent ss
+map_more : (rs ss : List Report) → map older_sent (rs ++ ss) ≡ map older_sent rs ++ map older_sent ss
 map_more [] ss = refl
-map_more (r ∷ rs) ss = ap (λ (l : List SentStatus). older_sent r ∷ l) (map_more rs ss)
+map_more (r ∷ rs) ss = ap (λ (l : List Report). older_sent r ∷ l) (map_more rs ss)
 
 pub aged_reports : (xs : List Load) → all_reports (map aged_load xs) ≡ map older_sent (all_reports xs)
 aged_reports [] = refl
-aged_reports (x ∷ xs) = ap (λ (l : List SentStatus). map older_sent x.reports ++ l) (aged_reports xs)
+aged_reports (x ∷ xs) = ap (λ (l : List Report). map older_sent x.reports ++ l) (aged_reports xs)
     ∙ sym (map_more x.reports (all_reports xs))
 
 pub aged_blocks : (xs : List Load) → blocks_in (map aged_load xs) ≡ map older (blocks_in xs)
 aged_blocks [] = refl
 aged_blocks (x ∷ xs) = ap (λ (l : List Block). older x.block ∷ l) (aged_blocks xs)
 
-same_texts : (rs : List SentStatus) → texts_of (map older_sent rs) ≡ texts_of rs
+same_texts : (rs : List Report) → texts_of (map older_sent rs) ≡ texts_of rs
 same_texts [] = refl
 same_texts (r ∷ rs) = ap (λ (l : List (List ℕ)). r.octets ∷ l) (same_texts rs)
 
-next_ages : (age : ℕ) (rs : List SentStatus) → AllByRecursion (HasAge age) rs
+same_rows : (rs : List Report) → map as_written (map older_sent rs) ≡ map as_written rs
+same_rows [] = refl
+same_rows (r ∷ rs) = ap (λ (l : List CarriedPdu). as_written r ∷ l) (same_rows rs)
+
+pub aged_pdus : (xs : List Load) → all_pdus (map aged_load xs) ≡ all_pdus xs
+aged_pdus [] = refl
+aged_pdus (x ∷ xs) =
+    ap (λ (l : List CarriedPdu). (l ++ map (λ (c : Copy). Numbered c) x.copies) ∷ all_pdus (map aged_load xs))
+    (same_rows x.reports)
+    ∙ ap (λ (l : List (List CarriedPdu)). pdus_in x ∷ l) (aged_pdus xs)
+
+next_ages : (age : ℕ) (rs : List Report) → AllByRecursion (HasAge age) rs
     → AllByRecursion (HasAge (age + 1)) (map older_sent rs)
 next_ages age [] h = tt
 next_ages age (r ∷ rs) h = (ap (λ (n : ℕ). n + 1) h.0, next_ages age rs h.1)
@@ -160,17 +186,17 @@ aged_all l d s numbers (x ∷ xs) h =
     )
 
 -- their STATUS PDUs are young where the blocks are
-young_of : (age : ℕ) (rs : List SentStatus) → age < 216 → AllByRecursion (HasAge age) rs → AllByRecursion IsYoungSent rs
+young_of : (age : ℕ) (rs : List Report) → age < 216 → AllByRecursion (HasAge age) rs → AllByRecursion IsYoungReport rs
 young_of age [] lt h = tt
 young_of age (r ∷ rs) lt h = let e = h.0 in (omega (arith, lt, e), young_of age rs lt h.1)
 
 pub young_all : (l : ℕ) (d : Direction) (s : Sending) (numbers : Numbers) (xs : List Load)
     → AllByRecursion IsYoung (blocks_in xs) → AllByRecursion (IsLoad l d s numbers) xs
-    → AllByRecursion IsYoungSent (all_reports xs)
+    → AllByRecursion IsYoungReport (all_reports xs)
 young_all l d s numbers [] y h = tt
 young_all l d s numbers (x ∷ xs) y h =
     let q = h.0 in
-    all_then IsYoungSent x.reports (all_reports xs) (young_of x.block.age x.reports y.0 q.aged)
+    all_then IsYoungReport x.reports (all_reports xs) (young_of x.block.age x.reports y.0 q.aged)
     (young_all l d s numbers xs y.1 h.1)
 
 -- ---- the lowest number under way

@@ -81,7 +81,7 @@ use Rattle.law_deliver.specs.AmFlow.Reordering.{reordering_by, reordering_over, 
 abbrev Silent : List Event → Type 0
 Silent told = reordering_in told ≡ []
 
-in_both : (xs ys : List Event) → reordering_in (xs ++ ys) ≡ reordering_in xs ++ reordering_in ys
+pub in_both : (xs ys : List Event) → reordering_in (xs ++ ys) ≡ reordering_in xs ++ reordering_in ys
 in_both xs ys = flat_map-append reordering_told xs ys
 
 -- behind others nothing more is told
@@ -149,7 +149,7 @@ status_silent lcid has r share = by (writes_status r share) (ack r (share - 3) %
     by true sn = prohibit_silent lcid has
     by false sn = refl
 
-taking_silent : (b : State) (share : ℕ) (held : Option ℕ) → Silent (taking b share held)
+pub taking_silent : (b : State) (share : ℕ) (held : Option ℕ) → Silent (taking b share held)
 unfolding taking
 taking_silent b share held =
     let w : Work = feeding b share held in
@@ -231,7 +231,7 @@ stopped_silent : (lcid : ℕ) (b : Bool) → Silent (stopped_told lcid b)
 stopped_silent lcid true = refl
 stopped_silent lcid false = refl
 
-control_silent : (h : Heard) (w : Work) → reordering_in (status_work h w).events ≡ reordering_in w.events
+pub control_silent : (h : Heard) (w : Work) → reordering_in (status_work h w).events ≡ reordering_in w.events
 control_silent heard_as.Ignored w = then_silent w.events (events.Drop w.pdcp.lcid lost.Ignored ∷ []) refl
 control_silent (heard_as.Limit sn) w = then_silent w.events (events.Fail w.pdcp.lcid sn ∷ []) refl
 control_silent (heard_as.Applied stopped) w =

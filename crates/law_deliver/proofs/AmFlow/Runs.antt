@@ -1,7 +1,7 @@
 -- What an end of a pair does in several deeds, one after the other.
 use Rattle.std.proofs.Common.{◌≡◌, ℕ, List, [], ◌∷◌, ◌++◌, map, length, Option, Some, None, slice_get, append_assoc}
 use Rattle.std.proofs.Common.{refl, ap, sym, subst, ◌∙◌}
-use Rattle.law_rlc.specs.AmPair.Flow.{Copy, except}
+use Rattle.law_rlc.specs.AmPair.Flow.{Copy, Report, except}
 use Rattle.bearer.specs.declared.flow.Flow.{Flow}
 use Rattle.bearer.specs.declared.flow.Flow.TheVariants.{Am}
 use Rattle.bearer.specs.Acknowledged.State.{State}
@@ -10,7 +10,7 @@ use Rattle.bearer_types.specs.Sides.{other}
 use Rattle.law_bearer.specs.AnyBearer.Calls.{Call, Arrive, after_all}
 use Rattle.law_deliver.specs.Steps.{walked, AllGiven, end_at, with_end}
 use Rattle.law_deliver.proofs.Steps.{steps_of, walked_at, all_given_at}
-use Rattle.law_deliver.specs.AmFlow.Pair.{SentStatus, BearerEnd, Pair, Deed, Calls, DataComes, StatusComes, DataGoes}
+use Rattle.law_deliver.specs.AmFlow.Pair.{BearerEnd, Pair, Deed, Calls, DataComes, StatusComes, DataGoes}
 use Rattle.law_deliver.specs.AmFlow.Pair.{StatusGoes, Step, Near, Far, arrives, data_comes, status_comes, does, happens}
 use Rattle.law_deliver.specs.AmFlow.Pair.{goes, IsDone, IsGiven, AreGiven}
 use Rattle.law_deliver.proofs.AmFlow.Sending.{is_called}
@@ -42,7 +42,7 @@ abbrev pub data_call : Option Copy → List Call
 data_call None = []
 data_call (Some c) = Arrive c.octets ∷ []
 
-abbrev pub status_call : Option SentStatus → List Call
+abbrev pub status_call : Option Report → List Call
 status_call None = []
 status_call (Some s) = Arrive s.octets ∷ []
 
@@ -91,8 +91,8 @@ one_hears other e d pdu pdus g q i h = record {
 abbrev pub octets_of : List Copy → List (List ℕ)
 octets_of cs = map (λ (c : Copy). c.octets) cs
 
-abbrev pub texts_of : List SentStatus → List (List ℕ)
-texts_of rs = map (λ (r : SentStatus). r.octets) rs
+abbrev pub texts_of : List Report → List (List ℕ)
+texts_of rs = map (λ (r : Report). r.octets) rs
 
 pub data_hears : (other e : BearerEnd) (pre cs post : List Copy) → other.copies ≡ pre ++ (cs ++ post)
     → Hears other e (octets_of cs)
@@ -104,15 +104,15 @@ data_hears other e pre (c ∷ cs) post q =
     (ap (λ (o : Option Copy). data_comes e o) at) (ap data_call at)
     (data_hears other (arrives e c.octets) (pre ++ c ∷ []) cs post (q ∙ sym (append_assoc pre (c ∷ []) (cs ++ post))))
 
-pub all_hears : (other e : BearerEnd) (pre rs post : List SentStatus) (before cs behind : List Copy)
+pub all_hears : (other e : BearerEnd) (pre rs post : List Report) (before cs behind : List Copy)
     → other.reports ≡ pre ++ (rs ++ post) → other.copies ≡ before ++ (cs ++ behind)
     → Hears other e (texts_of rs ++ octets_of cs)
 all_hears other e pre [] post before cs behind q p = data_hears other e before cs behind p
 all_hears other e pre (r ∷ rs) post before cs behind q p =
     let at : slice_get other.reports (length pre) ≡ Some r =
-    ap (λ (l : List SentStatus). slice_get l (length pre)) q ∙ at_front pre r (rs ++ post) in
+    ap (λ (l : List Report). slice_get l (length pre)) q ∙ at_front pre r (rs ++ post) in
     one_hears other e (StatusComes (length pre)) r.octets (texts_of rs ++ octets_of cs) tt
-    (ap (λ (o : Option SentStatus). status_comes e o) at) (ap status_call at)
+    (ap (λ (o : Option Report). status_comes e o) at) (ap status_call at)
     (all_hears other (arrives e r.octets) (pre ++ r ∷ []) rs post before cs behind
     (q ∙ sym (append_assoc pre (r ∷ []) (rs ++ post))) p)
 
@@ -123,13 +123,13 @@ pub except_front : {A : Type 0} (pre : List A) (x : A) (post : List A)
 except_front [] x post = refl
 except_front (p ∷ pre) x post = ap (λ l. p ∷ l) (except_front pre x post)
 
-pub record Drops (other e : BearerEnd) (copies : List Copy) (reports : List SentStatus) : Type 0 where
+pub record Drops (other e : BearerEnd) (copies : List Copy) (reports : List Report) : Type 0 where
   pub deeds : List Deed
   pub done : AreDone other e deeds
   pub is : does_all other e deeds ≡ record e { copies = copies; reports = reports }
   pub calls_none : all_calls_in other deeds ≡ []
 
-one_drops : (other e : BearerEnd) (d : Deed) (x : BearerEnd) (copies : List Copy) (reports : List SentStatus)
+one_drops : (other e : BearerEnd) (d : Deed) (x : BearerEnd) (copies : List Copy) (reports : List Report)
     → IsDone e d
     → calls_in other d ≡ [] → does other e d ≡ x
     → record x { copies = copies; reports = reports } ≡ record e { copies = copies; reports = reports }
@@ -152,15 +152,15 @@ data_drops other e before (c ∷ cs) behind p =
     ∙ except_front before c (cs ++ behind))) refl
     (data_drops other x before cs behind refl)
 
-pub all_drops : (other e : BearerEnd) (pre rs post : List SentStatus) (before cs behind : List Copy)
+pub all_drops : (other e : BearerEnd) (pre rs post : List Report) (before cs behind : List Copy)
     → e.reports ≡ pre ++ (rs ++ post) → e.copies ≡ before ++ (cs ++ behind)
     → Drops other e (before ++ behind) (pre ++ post)
 all_drops other e pre [] post before cs behind q p =
-    subst (λ (l : List SentStatus). Drops other e (before ++ behind) l) q (data_drops other e before cs behind p)
+    subst (λ (l : List Report). Drops other e (before ++ behind) l) q (data_drops other e before cs behind p)
 all_drops other e pre (r ∷ rs) post before cs behind q p =
     let x : BearerEnd = record e { reports = pre ++ (rs ++ post) } in
     one_drops other e (StatusGoes (length pre)) x (before ++ behind) (pre ++ post) tt refl
-    (ap (λ (l : List SentStatus). record e { reports = l }) (ap (except (length pre)) q
+    (ap (λ (l : List Report). record e { reports = l }) (ap (except (length pre)) q
     ∙ except_front pre r (rs ++ post)))
     refl
     (all_drops other x pre rs post before cs behind refl p)

@@ -25,7 +25,7 @@ use Rattle.law_bearer.specs.AnyBearer.Sending.{sends_on}
 use Rattle.law_bearer.specs.AnyBearer.Acknowledged.{offers_in, offered_to, has_more_behind, data_given, status_heard}
 use Rattle.law_bearer.specs.AnyBearer.Acknowledged.{sender_calls, IsOfSender, SenderGoes}
 use Rattle.law_bearer.proofs.AnyBearer.SenderCalls.{sends_then, sender_goes_on}
-use Rattle.law_deliver.specs.AmFlow.Pair.{SentStatus, called, data_by, HasOctet, IsTaking, IsCalling, BearerEnd}
+use Rattle.law_deliver.specs.AmFlow.Pair.{called, data_by, HasOctet, IsTaking, IsCalling, BearerEnd}
 use Rattle.law_deliver.proofs.AmFlow.Standing.{Stands, Goes, stays, steps_once, goes_on, none_new}
 
 -- ---- an acknowledged bearer stays one
@@ -41,7 +41,7 @@ is_called b (SetDiscard ttis) = refl
 
 -- ---- one call of the sender
 
-pub sent_one : (f : Flow) (c : SenderCall) (tx : Sender) (rx : Receiver) (cs : List Copy) (rs : List SentStatus)
+pub sent_one : (f : Flow) (c : SenderCall) (tx : Sender) (rx : Receiver) (cs : List Copy) (rs : List Report)
     (b : Bool)
     → Stands tx rx cs rs b f
     → Stands (sender_after tx c) rx (copies_with (given_by tx c) cs) rs (b || is_new (given_by tx c)) (sends f c)
@@ -56,7 +56,7 @@ sent_one f c tx rx cs rs b h = record {
       ∙ ap (λ (s : Sender). b || is_new (given_by s c)) h.sender_is;
 }
 
-sends_one : (f : Flow) (c : SenderCall) (tx : Sender) (rx : Receiver) (cs : List Copy) (rs : List SentStatus) (b : Bool)
+sends_one : (f : Flow) (c : SenderCall) (tx : Sender) (rx : Receiver) (cs : List Copy) (rs : List Report) (b : Bool)
     → IsSending f c → Stands tx rx cs rs b f
     → Goes f (sender_after tx c) rx (copies_with (given_by tx c) cs) rs (b || is_new (given_by tx c))
 sends_one f c tx rx cs rs b g h =
@@ -64,12 +64,12 @@ sends_one f c tx rx cs rs b g h =
     (sent_one f c tx rx cs rs b h)
 
 -- one that gives no PDU
-gives_none : (f : Flow) (tx : Sender) (rx : Receiver) (cs : List Copy) (rs : List SentStatus) (b : Bool)
+gives_none : (f : Flow) (tx : Sender) (rx : Receiver) (cs : List Copy) (rs : List Report) (b : Bool)
     → Goes f tx rx cs rs (b || false) → Goes f tx rx cs rs b
 gives_none f tx rx cs rs true h = h
 gives_none f tx rx cs rs false h = h
 
-own_one : (f : Flow) (c : SenderCall) (tx : Sender) (rx : Receiver) (cs : List Copy) (rs : List SentStatus) (b : Bool)
+own_one : (f : Flow) (c : SenderCall) (tx : Sender) (rx : Receiver) (cs : List Copy) (rs : List Report) (b : Bool)
     → IsOfSender c → Stands tx rx cs rs b f → Goes f (sender_after tx c) rx cs rs b
 own_one f (Offer sdu) tx rx cs rs b own h = absurd own
 own_one f (Taking size held more) tx rx cs rs b own h = absurd own
@@ -83,7 +83,7 @@ own_one f (Settle more) tx rx cs rs b own h =
 own_one f Confirm tx rx cs rs b own h =
     gives_none f (sender_after tx Confirm) rx cs rs b (sends_one f Confirm tx rx cs rs b tt h)
 
-own_all : (own : List SenderCall) (f : Flow) (tx : Sender) (rx : Receiver) (cs : List Copy) (rs : List SentStatus)
+own_all : (own : List SenderCall) (f : Flow) (tx : Sender) (rx : Receiver) (cs : List Copy) (rs : List Report)
     (b : Bool)
     → AllByRecursion IsOfSender own → Stands tx rx cs rs b f → Goes f (sends_on own tx) rx cs rs b
 own_all [] f tx rx cs rs b are h = stays f tx rx cs rs b h
@@ -94,14 +94,14 @@ own_all (c ∷ own) f tx rx cs rs b are h =
 
 -- ---- a call that brings nothing to the sender and takes nothing from there
 
-pub keeps_to_itself : (f : Flow) (tx ty : Sender) (rx : Receiver) (cs : List Copy) (rs : List SentStatus) (b : Bool)
+pub keeps_to_itself : (f : Flow) (tx ty : Sender) (rx : Receiver) (cs : List Copy) (rs : List Report) (b : Bool)
     → SenderGoes tx ty [] → Stands tx rx cs rs b f → Goes f ty rx cs rs b
 keeps_to_itself f tx ty rx cs rs b m h =
     subst (λ (t : Sender). Goes f t rx cs rs b) (sym m.left) (own_all m.own f tx rx cs rs b m.are_own h)
 
 -- ---- a take
 
-offers_all : (sdus : List (List ℕ)) (f : Flow) (tx : Sender) (rx : Receiver) (cs : List Copy) (rs : List SentStatus)
+pub offers_all : (sdus : List (List ℕ)) (f : Flow) (tx : Sender) (rx : Receiver) (cs : List Copy) (rs : List Report)
     (b : Bool)
     → AllByRecursion HasOctet sdus → Stands tx rx cs rs b f
     → Goes f (sends_on (map (λ sdu. Offer sdu) sdus) tx) rx cs rs b
@@ -112,7 +112,7 @@ offers_all (sdu ∷ sdus) f tx rx cs rs b some h =
     (gives_none f (sender_after tx c) rx cs rs b (sends_one f c tx rx cs rs b some.0 h))
     (λ g k. offers_all sdus g (sender_after tx c) rx cs rs b some.1 k)
 
-takes_one : (e : BearerEnd) (share : ℕ) (held : Option ℕ) (f : Flow) (rx : Receiver) (rs : List SentStatus)
+takes_one : (e : BearerEnd) (share : ℕ) (held : Option ℕ) (f : Flow) (rx : Receiver) (rs : List Report)
     → IsTaking e share held → Stands (offered_to e.bearer share held) rx e.copies rs e.busy f
     → Goes f (after_take (offered_to e.bearer share held) (data_size e.bearer share) held
     (has_more_behind e.bearer share held)) rx (copies_with (data_given e.bearer share held) e.copies) rs
@@ -128,7 +128,7 @@ takes_one e share held f rx rs t h =
       one = λ q. ap (λ (x : Sender). is_new (answer x size held more)) h.sender_is ∙ t.one (sym h.busy_is ∙ q);
     }) h
 
-takes_all : (e : BearerEnd) (share : ℕ) (held : Option ℕ) (f : Flow) (rx : Receiver) (rs : List SentStatus)
+takes_all : (e : BearerEnd) (share : ℕ) (held : Option ℕ) (f : Flow) (rx : Receiver) (rs : List Report)
     → IsTaking e share held
     → SenderGoes e.bearer.tx (called e.bearer (Take share held)).tx (sender_calls e.bearer (Take share held))
     → Stands e.bearer.tx rx e.copies rs e.busy f
@@ -156,7 +156,7 @@ takes_all e share held f rx rs t m h =
 -- ---- any call
 
 -- what a call leaves of the sender, where it gives no PDU
-quiet : (e : BearerEnd) (d : State) (f : Flow) (rx : Receiver) (rs : List SentStatus) → SenderGoes e.bearer.tx d.tx []
+quiet : (e : BearerEnd) (d : State) (f : Flow) (rx : Receiver) (rs : List Report) → SenderGoes e.bearer.tx d.tx []
     → Stands e.bearer.tx rx e.copies rs e.busy f → Goes f d.tx rx e.copies rs (e.busy || false)
 quiet e d f rx rs m h =
     none_new f d.tx rx e.copies rs e.busy (keeps_to_itself f e.bearer.tx d.tx rx e.copies rs e.busy m h)
@@ -164,7 +164,7 @@ quiet e d f rx rs m h =
 called_so : (b : State) (c : Call) → SenderGoes b.tx (called b c).tx (sender_calls b c)
 called_so b c = sender_goes_on b (called b c) c (is_called b c)
 
-pub calls_send : (e : BearerEnd) (c : Call) (f : Flow) (rx : Receiver) (rs : List SentStatus) → IsCalling e c
+pub calls_send : (e : BearerEnd) (c : Call) (f : Flow) (rx : Receiver) (rs : List Report) → IsCalling e c
     → Stands e.bearer.tx rx e.copies rs e.busy f
     → Goes f (called e.bearer c).tx rx (copies_with (data_by e.bearer c) e.copies) rs
     (e.busy || is_new (data_by e.bearer c))
@@ -181,7 +181,7 @@ calls_send e (SetDiscard ttis) f rx rs g h =
 -- ---- a PDU comes
 
 -- a data PDU is nothing to the sender
-pub data_sends : (e : BearerEnd) (octets : List ℕ) (f : Flow) (rx : Receiver) (rs : List SentStatus)
+pub data_sends : (e : BearerEnd) (octets : List ℕ) (f : Flow) (rx : Receiver) (rs : List Report)
     → status_heard (am_at octets) ≡ [] → Stands e.bearer.tx rx e.copies rs e.busy f
     → Goes f (called e.bearer (Arrive octets)).tx rx e.copies rs e.busy
 data_sends e octets f rx rs q h =
@@ -191,7 +191,7 @@ data_sends e octets f rx rs q h =
     (sender_goes_on e.bearer d (Arrive octets) (is_called e.bearer (Arrive octets)))) h
 
 status_at : (f : Flow) (k : ℕ) (r : Report) (pdu : StatusPdu) (tx : Sender) (rx : Receiver) (cs : List Copy)
-    (rs : List SentStatus) (b : Bool)
+    (rs : List Report) (b : Bool)
     → slice_get f.reports k ≡ Some r → am_at r.octets ≡ Ok (Control pdu) → Stands tx rx cs rs b f
     → Goes f (sender_after tx (Status pdu)) rx cs rs b
 status_at f k r pdu tx rx cs rs b q read h =
@@ -211,7 +211,7 @@ status_at f k r pdu tx rx cs rs b q read h =
 
 -- a STATUS that stands at a place comes
 pub status_sends : (e : BearerEnd) (f : Flow) (k : ℕ) (r : Report) (pdu : StatusPdu) (rx : Receiver)
-    (rs : List SentStatus)
+    (rs : List Report)
     → slice_get f.reports k ≡ Some r → am_at r.octets ≡ Ok (Control pdu) → Stands e.bearer.tx rx e.copies rs e.busy f
     → Goes f (called e.bearer (Arrive r.octets)).tx rx e.copies rs e.busy
 status_sends e f k r pdu rx rs q read h =

@@ -3,22 +3,20 @@ use Rattle.std.proofs.Common.{◌≡◌, ℕ, zero, suc, Bool, true, false, ◌|
 use Rattle.std.proofs.Common.{slice_get, refl, sym, subst}
 use Rattle.rlc_am_tx.specs.Machine.{State as Sender}
 use Rattle.rlc_am_rx.specs.State.{State as Receiver}
-use Rattle.law_rlc.specs.AmPair.Flow.{Copy, Flow, Step, sender, receiver, happens, goes}
+use Rattle.law_rlc.specs.AmPair.Flow.{Copy, Report, Flow, Step, sender, receiver, happens, goes}
 use Rattle.law_rlc.specs.AmPair.Given.{IsGiven, AreGiven}
-use Rattle.law_deliver.specs.AmFlow.Pair.{SentStatus}
-use Rattle.law_deliver.specs.AmFlow.Flows.{sent_as}
 
-pub record Stands (tx : Sender) (rx : Receiver) (copies : List Copy) (reports : List SentStatus) (busy : Bool)
+pub record Stands (tx : Sender) (rx : Receiver) (copies : List Copy) (reports : List Report) (busy : Bool)
     (f : Flow) :
     Type 0 where
   pub sender_is : (sender f).state ≡ tx
   pub receiver_is : (receiver f).state ≡ rx
   pub copies_are : f.copies ≡ copies
-  pub reports_are : map sent_as f.reports ≡ reports
+  pub reports_are : f.reports ≡ reports
   pub busy_is : f.busy ≡ busy
 
 -- steps bring a flow there
-pub record Goes (f : Flow) (tx : Sender) (rx : Receiver) (copies : List Copy) (reports : List SentStatus)
+pub record Goes (f : Flow) (tx : Sender) (rx : Receiver) (copies : List Copy) (reports : List Report)
     (busy : Bool) :
     Type 0 where
   pub steps : List Step
@@ -33,15 +31,15 @@ pub given_more : (f : Flow) (ss ts : List Step) → AreGiven f ss → AreGiven (
 given_more f [] ts g h = h
 given_more f (s ∷ ss) ts g h = (g.0, given_more (happens f s) ss ts g.1 h)
 
-pub stays : (f : Flow) (tx : Sender) (rx : Receiver) (cs : List Copy) (rs : List SentStatus) (b : Bool)
+pub stays : (f : Flow) (tx : Sender) (rx : Receiver) (cs : List Copy) (rs : List Report) (b : Bool)
     → Stands tx rx cs rs b f → Goes f tx rx cs rs b
 stays f tx rx cs rs b h = record { steps = []; given = tt; stands = h }
 
-pub steps_once : (f : Flow) (s : Step) (tx : Sender) (rx : Receiver) (cs : List Copy) (rs : List SentStatus) (b : Bool)
+pub steps_once : (f : Flow) (s : Step) (tx : Sender) (rx : Receiver) (cs : List Copy) (rs : List Report) (b : Bool)
     → IsGiven f s → Stands tx rx cs rs b (happens f s) → Goes f tx rx cs rs b
 steps_once f s tx rx cs rs b g h = record { steps = s ∷ []; given = (g, tt); stands = h }
 
-pub goes_on : (f : Flow) (tx ty : Sender) (rx ry : Receiver) (cs ds : List Copy) (rs ss : List SentStatus) (b c : Bool)
+pub goes_on : (f : Flow) (tx ty : Sender) (rx ry : Receiver) (cs ds : List Copy) (rs ss : List Report) (b c : Bool)
     → Goes f tx rx cs rs b → ((g : Flow) → Stands tx rx cs rs b g → Goes g ty ry ds ss c) → Goes f ty ry ds ss c
 goes_on f tx ty rx ry cs ds rs ss b c m more =
     let n : Goes (goes m.steps f) ty ry ds ss c = more (goes m.steps f) m.stands in
@@ -56,7 +54,7 @@ or_none true = refl
 or_none false = refl
 
 -- nothing new was sent
-pub none_new : (f : Flow) (tx : Sender) (rx : Receiver) (cs : List Copy) (rs : List SentStatus) (b : Bool)
+pub none_new : (f : Flow) (tx : Sender) (rx : Receiver) (cs : List Copy) (rs : List Report) (b : Bool)
     → Goes f tx rx cs rs b → Goes f tx rx cs rs (b || false)
 none_new f tx rx cs rs b h = subst (Goes f tx rx cs rs) (or_none b) h
 

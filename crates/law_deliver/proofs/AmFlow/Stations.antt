@@ -31,7 +31,8 @@ use Rattle.promises.specs.Pdus.{carried}
 use Rattle.law_deliver.specs.AmFlow.Pair.{BearerEnd, Deed, Calls, called, calls, IsDone}
 use Rattle.law_deliver.proofs.AmFlow.Channels.{receive_by, plain_by}
 use Rattle.law_deliver.proofs.AmFlow.Loads.{Load, all_copies, all_reports, blocks_in, IsLoad, Split, split_at}
-use Rattle.law_deliver.proofs.AmFlow.Loads.{except_blocks, except_all, all_at}
+use Rattle.law_deliver.specs.AmFlow.Carrying.{CarriedPdu, behind_call}
+use Rattle.law_deliver.proofs.AmFlow.Loads.{pdus_in, all_pdus, except_map, except_blocks, except_all, all_at}
 use Rattle.law_deliver.proofs.AmFlow.Places.{GoesBy}
 use Rattle.law_deliver.proofs.AmFlow.Runs.{does_all, AreDone, all_calls_in, all_hears, all_drops, Drops}
 use Rattle.law_deliver.proofs.AmFlow.Sending.{is_called}
@@ -49,12 +50,26 @@ pub record Matches (side : Side) (l : ℕ) (s : Station) (n : BearerEnd) : Type 
   pub are : AllByRecursion (IsLoad l (sent_by side) s.end.sender s.end.numbers) loads
   pub busy : n.busy ≡ true → s.busy ≡ true
 
+-- with these PDUs beside its blocks
+pub record MatchesWith (side : Side) (l : ℕ) (s : Station) (n : BearerEnd) (pdus : List (List CarriedPdu)) : Type 0
+  where
+    pub matches : Matches side l s n
+    pub pdus_are : all_pdus matches.loads ≡ pdus
+
 -- by these calls of the bearer
-pub record Acts (side : Side) (l : ℕ) (s : Station) (m n : BearerEnd) (cs : List BearerCall) : Type 0 where
+pub record Acts (side : Side) (l : ℕ) (s : Station) (m n : BearerEnd) (cs : List BearerCall)
+    (pdus : List (List CarriedPdu)) : Type 0 where
   pub deeds : List Deed
   pub done : AreDone m n deeds
   pub calls_are : all_calls_in m deeds ≡ cs
-  pub matches : Matches side l s (does_all m n deeds)
+  pub now : MatchesWith side l s (does_all m n deeds) pdus
+
+-- the same with an end that it is
+matches_as : (side : Side) (l : ℕ) (s : Station) (n m : BearerEnd) → m ≡ n → (h : Matches side l s n)
+    → MatchesWith side l s m (all_pdus h.loads)
+matches_as side l s n m q h =
+    subst (λ (x : BearerEnd). MatchesWith side l s x (all_pdus h.loads)) (sym q)
+    (record { matches = h; pdus_are = refl })
 
 -- ---- an end goes on
 
@@ -89,9 +104,10 @@ calls_by l e None = []
 calls_by l e (Some b) = calls_of l e (Receive b.octets)
 
 pub hears : (side oside : Side) (l k : ℕ) (s o : Station) (n m : BearerEnd) (x : Option Block)
-    → heard_by side ≡ sent_by oside → Matches side l s n → Matches oside l o m → slice_get o.blocks k ≡ x
-    → Acts side l (comes s x) m n (calls_by l s.end x)
-hears side oside l k s o n m None dir h g q = record { deeds = []; done = tt; calls_are = refl; matches = h }
+    → heard_by side ≡ sent_by oside → (h : Matches side l s n) → Matches oside l o m → slice_get o.blocks k ≡ x
+    → Acts side l (comes s x) m n (calls_by l s.end x) (all_pdus h.loads)
+hears side oside l k s o n m None dir h g q =
+    record { deeds = []; done = tt; calls_are = refl; now = record { matches = h; pdus_are = refl } }
 hears side oside l k s o n m (Some b) dir h g q =
     let e = s.end in
     let at = at_place (λ (x : Load). x.block) g.loads k b (ap (λ (bs : List Block). slice_get bs k) g.blocks_are ∙ q) in
@@ -112,7 +128,7 @@ hears side oside l k s o n m (Some b) dir h g q =
     ∙ ap (λ (ps : List (List ℕ)). after_all (Am n.bearer) (map (λ p. Arrives p) ps)) carries
     ∙ hr.flow_is in
     let t : Station = record s { end = after e (Receive b.octets) } in
-    let now : Matches side l t (record n { bearer = hr.bearer }) = record {
+    let there : Matches side l t (record n { bearer = hr.bearer }) = record {
       come = come_more side e (Receive b.octets) h.come tt;
       there = by.has_is ∙ h.there;
       bearer_is = bearer_is;
@@ -128,7 +144,7 @@ hears side oside l k s o n m (Some b) dir h g q =
       done = hr.done;
       calls_are =
           hr.calls_are ∙ ap (λ (ps : List (List ℕ)). map (λ p. Arrives p) ps) (sym carries);
-      matches = subst (Matches side l t) (sym hr.is) now;
+      now = matches_as side l t _ _ hr.is there;
     }
 
 -- ---- a block is let go
@@ -139,7 +155,8 @@ except_none (x ∷ xs) zero q = let no : Some x ≡ None = q in absurd cc
 except_none (x ∷ xs) (suc k) q = ap (λ l. x ∷ l) (except_none xs k q)
 
 pub lets_go : (side : Side) (l k : ℕ) (s : Station) (n m : BearerEnd) (h : Matches side l s n) (o : Option Load)
-    → slice_get h.loads k ≡ o → Acts side l (record s { blocks = except k s.blocks }) m n []
+    → slice_get h.loads k ≡ o
+    → Acts side l (record s { blocks = except k s.blocks }) m n [] (except k (all_pdus h.loads))
 lets_go side l k s n m h None q =
     let same : except k s.blocks ≡ s.blocks = ap (except k) (sym h.blocks_are) ∙ sym (except_blocks h.loads k)
     ∙ ap blocks_in (except_none h.loads k q) ∙ h.blocks_are in
@@ -147,7 +164,11 @@ lets_go side l k s n m h None q =
       deeds = [];
       done = tt;
       calls_are = refl;
-      matches = subst (λ (bs : List Block). Matches side l (record s { blocks = bs }) n) (sym same) h;
+      now = subst (λ (bs : List Block). MatchesWith side l (record s { blocks = bs }) n (except k (all_pdus h.loads)))
+          (sym same) (record {
+            matches = h;
+            pdus_are = ap all_pdus (sym (except_none h.loads k q)) ∙ except_map pdus_in h.loads k;
+          });
     }
 lets_go side l k s n m h (Some x) q =
     let sp : Split h.loads k x = split_at h.loads k x q in
@@ -155,7 +176,7 @@ lets_go side l k s n m h (Some x) q =
     all_drops m n sp.pre x.reports sp.post sp.before x.copies sp.behind (h.reports_are ∙ sp.reports_are)
     (h.copies_are ∙ sp.copies_are) in
     let t : Station = record s { blocks = except k s.blocks } in
-    let now : Matches side l t (record n { copies = sp.before ++ sp.behind; reports = sp.pre ++ sp.post }) = record {
+    let there : Matches side l t (record n { copies = sp.before ++ sp.behind; reports = sp.pre ++ sp.post }) = record {
       come = h.come;
       there = h.there;
       bearer_is = h.bearer_is;
@@ -170,7 +191,8 @@ lets_go side l k s n m h (Some x) q =
       deeds = d.deeds;
       done = d.done;
       calls_are = d.calls_none;
-      matches = subst (Matches side l t) (sym d.is) now;
+      now = subst (MatchesWith side l t (does_all m n d.deeds)) (except_map pdus_in h.loads k)
+          (matches_as side l t _ _ d.is there);
     }
 
 -- ---- calls that write nothing and bring no PDU
@@ -227,11 +249,12 @@ plain_runs m n (c ∷ cs) p =
 
 pub plain_acts : (side : Side) (l : ℕ) (s : Station) (n m : BearerEnd) (e : End) (cs : List BearerCall)
     (h : Matches side l s n) → HasCome side e → GoesBy l s.end.bearers e.bearers cs → AllByRecursion IsPlain cs
-    → AllByRecursion (IsLoad l (sent_by side) e.sender e.numbers) h.loads → Acts side l (record s { end = e }) m n cs
+    → AllByRecursion (IsLoad l (sent_by side) e.sender e.numbers) h.loads
+    → Acts side l (record s { end = e }) m n cs (all_pdus h.loads)
 plain_acts side l s n m e cs h come by p are =
     let r : Runs m n cs = plain_runs m n cs p in
     let t : Station = record s { end = e } in
-    let now : Matches side l t (record n { bearer = r.bearer }) = record {
+    let there : Matches side l t (record n { bearer = r.bearer }) = record {
       come = come;
       there = by.has_is ∙ h.there;
       bearer_is = by.goes h.there ∙ ap (λ (f : Flow). after_all f cs) h.bearer_is ∙ r.flow_is;
@@ -246,7 +269,7 @@ plain_acts side l s n m e cs h come by p are =
       deeds = r.deeds;
       done = r.done;
       calls_are = r.calls_are;
-      matches = subst (Matches side l t) (sym r.is) now;
+      now = matches_as side l t _ _ r.is there;
     }
 
 plain_only : (t : Bool) (c : BearerCall) → IsPlain c → AllByRecursion IsPlain (only t c)
@@ -327,10 +350,31 @@ plain_keep l d e (Receive block) xs g v h = h
 plain_keep l d e (Expire lcid clock) xs g v h = h
 plain_keep l d e (Move keys) xs g v h = let no : keys ∷ [] ≡ [] = g.moves_none in absurd cc
 
-pub plain_call : (side : Side) (l : ℕ) (s : Station) (n m : BearerEnd) (c : Call) → Matches side l s n → IsGivenCall c
-    → GoesOnInLife l c → ((t : Turn) → c ≡ Visits t → ⊥) → ((block : List ℕ) → c ≡ Receive block → ⊥)
-    → Acts side l (record s { end = after s.end c }) m n (calls_of l s.end c)
+-- it builds no block
+pub plain_stays : (l : ℕ) (e : End) (c : Call) (pdus : List (List CarriedPdu)) → ((t : Turn) → c ≡ Visits t → ⊥)
+    → pdus ≡ behind_call l e c pdus
+plain_stays l e (SetVisits maximum) pdus v = refl
+plain_stays l e (SetReports reports) pdus v = refl
+plain_stays l e (Add c keys) pdus v = refl
+plain_stays l e (Submit lcid octets) pdus v = refl
+plain_stays l e (SetDiscard lcid ttis) pdus v = refl
+plain_stays l e Tick pdus v = refl
+plain_stays l e TickBuckets pdus v = refl
+plain_stays l e (Visits t) pdus v = absurd (v t refl)
+plain_stays l e (Grants tti) pdus v = refl
+plain_stays l e (Granted tti good) pdus v = refl
+plain_stays l e (Assigned tti ndi good) pdus v = refl
+plain_stays l e (Pass tti) pdus v = refl
+plain_stays l e (Receive block) pdus v = refl
+plain_stays l e (Expire lcid clock) pdus v = refl
+plain_stays l e (Move keys) pdus v = refl
+
+pub plain_call : (side : Side) (l : ℕ) (s : Station) (n m : BearerEnd) (c : Call) (h : Matches side l s n)
+    → IsGivenCall c → GoesOnInLife l c → ((t : Turn) → c ≡ Visits t → ⊥) → ((block : List ℕ) → c ≡ Receive block → ⊥)
+    → Acts side l (record s { end = after s.end c }) m n (calls_of l s.end c) (behind_call l s.end c (all_pdus h.loads))
 plain_call side l s n m c h g life v r =
-    plain_acts side l s n m (after s.end c) (calls_of l s.end c) h (come_more side s.end c h.come g)
+    subst (Acts side l (record s { end = after s.end c }) m n (calls_of l s.end c))
+    (plain_stays l s.end c (all_pdus h.loads) v)
+    (plain_acts side l s n m (after s.end c) (calls_of l s.end c) h (come_more side s.end c h.come g)
     (plain_by l s.end c life v r) (plain_calls l s.end c life v r)
-    (plain_keep l (sent_by side) s.end c h.loads life v h.are)
+    (plain_keep l (sent_by side) s.end c h.loads life v h.are))

@@ -6,7 +6,7 @@ use Rattle.std.specs.List.{AllByRecursion}
 use Rattle.std.proofs.lemmas.Bool.{cases_lt}
 use Rattle.std.proofs.lemmas.List.{get_or_past}
 use Rattle.std.proofs.Math.ListN.{length-set}
-use Rattle.law_rlc.specs.AmPair.Flow.{Copy, copies_with}
+use Rattle.law_rlc.specs.AmPair.Flow.{Copy, Report, copies_with}
 use Rattle.law_rlc.specs.AmPair.Given.{IsHeld as IsAtLeastHeld}
 use Rattle.bearer.specs.declared.flow.Flow.{Flow}
 use Rattle.bearer.specs.declared.flow.Flow.TheVariants.{Am}
@@ -39,16 +39,19 @@ use Rattle.law_node.proofs.Keeping.{share_most}
 use Rattle.law_node.proofs.Noting.{row_is}
 use Rattle.law_node.proofs.Sound.{visited_sound}
 use Rattle.prioritise.specs.Channels.{has as has_channel}
+use Rattle.rlc_am_rx.specs.State.{State as Receiver}
 use Rattle.rlc_pdu.specs.declared.outcome.Taken.{Taken}
 use Rattle.rlc_pdu.specs.declared.outcome.Taken.TheVariants as taken
 use Rattle.law_deliver.specs.AmFlow.Air.{Block, Station, built_at, is_new as is_new_visit, calls as station_calls}
 use Rattle.law_deliver.specs.AmFlow.Air.{HasCome, IsHeld, IsBuilding, IsVisiting}
 use Rattle.law_deliver.specs.AmFlow.Channels.{only, share_of, held_of as told_held, takes_of, calls_of, written_by}
 use Rattle.promises.specs.Pdus.{carried}
-use Rattle.law_deliver.specs.AmFlow.Pair.{SentStatus, BearerEnd, Calls, written_now, HasOctet, IsTaking}
+use Rattle.law_deliver.specs.AmFlow.Carrying.{CarriedPdu, Reported, data_written, written_in, written_on, with_built}
+use Rattle.law_deliver.specs.AmFlow.Carrying.{behind_call}
+use Rattle.law_deliver.specs.AmFlow.Pair.{BearerEnd, Calls, written_now, reports_now, HasOctet, IsTaking}
 use Rattle.law_deliver.proofs.AmFlow.Channels.{turn_by, blocks_carry_pdus}
 use Rattle.law_deliver.proofs.AmFlow.Loads.{Load, blocks_in, noted_of, IsNoted, HasAge, IsLoad, lowest_all, IsHeldBy}
-use Rattle.law_deliver.proofs.AmFlow.Loads.{held_by}
+use Rattle.law_deliver.proofs.AmFlow.Loads.{held_by, as_written, pdus_in, all_pdus}
 use Rattle.law_deliver.proofs.AmFlow.Octets.{some_octets}
 use Rattle.law_deliver.proofs.AmFlow.Places.{GoesBy}
 use Rattle.law_deliver.proofs.AmFlow.Runs.{octets_of, texts_of}
@@ -84,13 +87,19 @@ module _ (numbers : Numbers) (l p : ℕ) where
   noted_given taken.Held e = tt
   noted_given taken.Stopped e = tt
 
-texts_written : (xs : List (List ℕ)) → xs ≡ texts_of (map written_now xs)
-texts_written [] = refl
-texts_written (x ∷ xs) = ap (λ (l : List (List ℕ)). x ∷ l) (texts_written xs)
+module _ (rx : Receiver) (share : ℕ) where
+  texts_written : (xs : List (List ℕ)) → xs ≡ texts_of (map (written_now rx share) xs)
+  texts_written [] = refl
+  texts_written (x ∷ xs) = ap (λ (l : List (List ℕ)). x ∷ l) (texts_written xs)
 
-ages_written : (xs : List (List ℕ)) → AllByRecursion (HasAge 0) (map written_now xs)
-ages_written [] = tt
-ages_written (x ∷ xs) = (refl, ages_written xs)
+  ages_written : (xs : List (List ℕ)) → AllByRecursion (HasAge 0) (map (written_now rx share) xs)
+  ages_written [] = tt
+  ages_written (x ∷ xs) = (refl, ages_written xs)
+
+  reports_written : (xs : List (List ℕ)) → map as_written (map (written_now rx share) xs)
+      ≡ map (λ (r : Report). Reported r) (map (written_now rx share) xs)
+  reports_written [] = refl
+  reports_written (x ∷ xs) = ap (λ (l : List CarriedPdu). as_written (written_now rx share x) ∷ l) (reports_written xs)
 
 -- ---- an end that has come so far
 
@@ -251,7 +260,7 @@ number_so l s t there q =
 
 -- the bearer of the channel writes, where the channel is one of the end's
 module _ (side : Side) (l : ℕ) (s : Station) (n m : BearerEnd) (t : Turn) where
-  is_taking : visit t.tti t.order s.end ≡ New → Matches side l s n → IsBuilding s t → t.grant ≤ 9422
+  pub is_taking : visit t.tti t.order s.end ≡ New → Matches side l s n → IsBuilding s t → t.grant ≤ 9422
       → IsTaking n (part l s t) (low l s t)
   unfolding visited
   is_taking v h b most =
@@ -281,7 +290,7 @@ module _ (side : Side) (l : ℕ) (s : Station) (n m : BearerEnd) (t : Turn) wher
 
   written_so : (h : Matches side l s n) → has_channel l (visited t.tti t.order s.end).buckets.channels ≡ true
       → written_by (visited t.tti t.order s.end) t.grant l
-      ≡ texts_of (map written_now (status_pdus n.bearer.rx (part l s t)))
+      ≡ texts_of (reports_now n.bearer.rx (part l s t))
       ++ octets_of (copies_with (data_given n.bearer (part l s t) (low l s t)) [])
   unfolding visited
   written_so h q =
@@ -289,14 +298,15 @@ module _ (side : Side) (l : ℕ) (s : Station) (n m : BearerEnd) (t : Turn) wher
       ∙ ap (λ (f : Flow). pdus f (part l s t) (low l s t)) h.bearer_is
       ∙ writes_what_rlc_gives n.bearer (part l s t) (low l s t)
       ∙ ap (λ (x : List (List ℕ)). x ++ pdus_of (data_given n.bearer (part l s t) (low l s t)))
-      (texts_written (status_pdus n.bearer.rx (part l s t)))
-      ∙ ap (λ (x : List (List ℕ)). texts_of (map written_now (status_pdus n.bearer.rx (part l s t))) ++ x)
+      (texts_written n.bearer.rx (part l s t) (status_pdus n.bearer.rx (part l s t)))
+      ∙ ap (λ (x : List (List ℕ)). texts_of (reports_now n.bearer.rx (part l s t)) ++ x)
       (octets_given (data_given n.bearer (part l s t) (low l s t)))
 
   builds_by : (here : Bool) → visit t.tti t.order s.end ≡ New
-      → has_channel l (visited t.tti t.order s.end).buckets.channels ≡ here → Matches side l s n
+      → has_channel l (visited t.tti t.order s.end).buckets.channels ≡ here → (h : Matches side l s n)
       → HasCome side (built_end s t) → IsBuilding s t → t.grant ≤ 9422
       → Acts side l (built_station s t) m n (only here (Takes (part l s t) (low l s t)))
+      (written_on l t (visited t.tti t.order s.end) ∷ all_pdus h.loads)
   unfolding visited
   builds_by true v q h come b most =
       let by : GoesBy l s.end.bearers (built_end s t).bearers (Takes (part l s t) (low l s t) ∷ []) =
@@ -304,33 +314,42 @@ module _ (side : Side) (l : ℕ) (s : Station) (n m : BearerEnd) (t : Turn) wher
       (turn_by New t (visited t.tti t.order s.end) l
       (visited_sound t.tti t.order s.end (come_sound side s.end h.come))) in
       let data' = data_given n.bearer (part l s t) (low l s t) in
-      let status = status_pdus n.bearer.rx (part l s t) in
-      let load : Load =
-      record { block = block_of s t; copies = copies_with data' []; reports = map written_now status } in
+      let status = reports_now n.bearer.rx (part l s t) in
+      let load : Load = record { block = block_of s t; copies = copies_with data' []; reports = status } in
+      let written : pdus_in load ≡ written_on l t (visited t.tti t.order s.end) =
+      ap (λ (ps : List CarriedPdu). ps ++ data_written n.bearer (part l s t) (low l s t))
+      (reports_written n.bearer.rx (part l s t) (status_pdus n.bearer.rx (part l s t)))
+      ∙ ap (λ (f : Flow). written_in f (part l s t) (low l s t)) (sym h.bearer_is)
+      ∙ ap (λ (b : Bool). if b then written_in (flow l s.end) (part l s t) (low l s t) else []) (sym q) in
       record {
         deeds = Calls (Takes (part l s t) (low l s t)) ∷ [];
         done = (is_taking v h b most, tt);
         calls_are = refl;
-        matches = record {
-          come = come;
-          there = by.has_is ∙ h.there;
-          bearer_is = by.goes h.there ∙ ap (λ (f : Flow). after_all f (Takes (part l s t) (low l s t) ∷ [])) h.bearer_is
-              ∙ is_called n.bearer (Takes (part l s t) (low l s t));
-          loads = load ∷ h.loads;
-          blocks_are = ap (λ (bs : List Block). block_of s t ∷ bs) h.blocks_are;
-          copies_are = copies_split data' n.copies ∙ ap (λ (cs : List Copy). copies_with data' [] ++ cs) h.copies_are;
-          reports_are = ap (λ (rs : List SentStatus). map written_now status ++ rs) h.reports_are;
-          are = (
-            record {
-              carries = carries_new h b.some most ∙ written_so h q;
-              process = omega arith;
-              aged = ages_written status;
-              noted = λ held. noted_given (built_end s t).numbers l (t.tti % 8) data' (row_so side l s t h.come
-                  ∙ given_so h q);
-            },
-            old_loads l (sent_by side) s t h.loads v b h.blocks_are h.are,
-          );
-          busy = λ x. or_true s.busy;
+        now = record {
+          matches = record {
+            come = come;
+            there = by.has_is ∙ h.there;
+            bearer_is = by.goes h.there
+                ∙ ap (λ (f : Flow). after_all f (Takes (part l s t) (low l s t) ∷ [])) h.bearer_is
+                ∙ is_called n.bearer (Takes (part l s t) (low l s t));
+            loads = load ∷ h.loads;
+            blocks_are = ap (λ (bs : List Block). block_of s t ∷ bs) h.blocks_are;
+            copies_are = copies_split data' n.copies
+                ∙ ap (λ (cs : List Copy). copies_with data' [] ++ cs) h.copies_are;
+            reports_are = ap (λ (rs : List Report). status ++ rs) h.reports_are;
+            are = (
+              record {
+                carries = carries_new h b.some most ∙ written_so h q;
+                process = omega arith;
+                aged = ages_written n.bearer.rx (part l s t) (status_pdus n.bearer.rx (part l s t));
+                noted = λ held. noted_given (built_end s t).numbers l (t.tti % 8) data' (row_so side l s t h.come
+                    ∙ given_so h q);
+              },
+              old_loads l (sent_by side) s t h.loads v b h.blocks_are h.are,
+            );
+            busy = λ x. or_true s.busy;
+          };
+          pdus_are = ap (λ (ps : List CarriedPdu). ps ∷ all_pdus h.loads) written;
         };
       }
   builds_by false v q h come b most =
@@ -345,31 +364,35 @@ module _ (side : Side) (l : ℕ) (s : Station) (n m : BearerEnd) (t : Turn) wher
         deeds = [];
         done = tt;
         calls_are = refl;
-        matches = record {
-          come = come;
-          there = by.has_is ∙ h.there;
-          bearer_is = by.goes h.there ∙ h.bearer_is;
-          loads = load ∷ h.loads;
-          blocks_are = ap (λ (bs : List Block). block_of s t ∷ bs) h.blocks_are;
-          copies_are = h.copies_are;
-          reports_are = h.reports_are;
-          are = (
-            record {
-              carries = carries_new h b.some most ∙ none;
-              process = omega arith;
-              aged = tt;
-              noted = λ held. tt;
-            },
-            old_loads l (sent_by side) s t h.loads v b h.blocks_are h.are,
-          );
-          busy = λ x. or_true s.busy;
+        now = record {
+          matches = record {
+            come = come;
+            there = by.has_is ∙ h.there;
+            bearer_is = by.goes h.there ∙ h.bearer_is;
+            loads = load ∷ h.loads;
+            blocks_are = ap (λ (bs : List Block). block_of s t ∷ bs) h.blocks_are;
+            copies_are = h.copies_are;
+            reports_are = h.reports_are;
+            are = (
+              record {
+                carries = carries_new h b.some most ∙ none;
+                process = omega arith;
+                aged = tt;
+                noted = λ held. tt;
+              },
+              old_loads l (sent_by side) s t h.loads v b h.blocks_are h.are,
+            );
+            busy = λ x. or_true s.busy;
+          };
+          pdus_are = ap (λ (x : Bool). (if x then written_in (flow l s.end) (part l s t) (low l s t) else [])
+              ∷ all_pdus h.loads) (sym q);
         };
       }
 
 -- ---- any visit
 
 visits_by : (side : Side) (l : ℕ) (s : Station) (n m : BearerEnd) (t : Turn) (v : Visit)
-    → visit t.tti t.order s.end ≡ v → Matches side l s n
+    → visit t.tti t.order s.end ≡ v → (h : Matches side l s n)
     → HasCome side (answered v t (built_by v t.tti t.grant (visited t.tti t.order s.end))) → IsVisiting v s t
     → t.grant ≤ 9422
     → Acts side l (record {
@@ -378,6 +401,7 @@ visits_by : (side : Side) (l : ℕ) (s : Station) (n m : BearerEnd) (t : Turn) (
       busy = s.busy || is_new_visit v;
     }) m n
     (takes_of v t (visited t.tti t.order s.end) l)
+    (with_built l v t (visited t.tti t.order s.end) (all_pdus h.loads))
 unfolding visited
 visits_by side l s n m t New v h come b most =
     builds_by side l s n m t (has_channel l (visited t.tti t.order s.end).buckets.channels) v refl h come b most
@@ -385,43 +409,50 @@ visits_by side l s n m t (Resend rv) v h come b most = record {
   deeds = [];
   done = tt;
   calls_are = refl;
-  matches = record {
-    come = come;
-    there = h.there;
-    bearer_is = h.bearer_is;
-    loads = h.loads;
-    blocks_are = h.blocks_are;
-    copies_are = h.copies_are;
-    reports_are = h.reports_are;
-    are =
-        fewer_keep l (sent_by side) s.end.sender
-        (after_feedback (after_visit s.end.sender t.tti t.order) t.tti t.good) s.end.numbers h.loads
-        (λ p none. feedback_fewer (after_visit s.end.sender t.tti t.order) t.tti t.good p
-        (visit_fewer s.end.sender t.tti t.order p none)) h.are;
-    busy = λ x. sym (or_none s.busy) ∙ h.busy x;
+  now = record {
+    matches = record {
+      come = come;
+      there = h.there;
+      bearer_is = h.bearer_is;
+      loads = h.loads;
+      blocks_are = h.blocks_are;
+      copies_are = h.copies_are;
+      reports_are = h.reports_are;
+      are =
+          fewer_keep l (sent_by side) s.end.sender
+          (after_feedback (after_visit s.end.sender t.tti t.order) t.tti t.good) s.end.numbers h.loads
+          (λ p none. feedback_fewer (after_visit s.end.sender t.tti t.order) t.tti t.good p
+          (visit_fewer s.end.sender t.tti t.order p none)) h.are;
+      busy = λ x. sym (or_none s.busy) ∙ h.busy x;
+    };
+    pdus_are = refl;
   };
 }
 visits_by side l s n m t Silent v h come b most = record {
   deeds = [];
   done = tt;
   calls_are = refl;
-  matches = record {
-    come = come;
-    there = h.there;
-    bearer_is = h.bearer_is;
-    loads = h.loads;
-    blocks_are = h.blocks_are;
-    copies_are = h.copies_are;
-    reports_are = h.reports_are;
-    are = fewer_keep l (sent_by side) s.end.sender (after_visit s.end.sender t.tti t.order) s.end.numbers h.loads
-        (visit_fewer s.end.sender t.tti t.order) h.are;
-    busy = λ x. sym (or_none s.busy) ∙ h.busy x;
+  now = record {
+    matches = record {
+      come = come;
+      there = h.there;
+      bearer_is = h.bearer_is;
+      loads = h.loads;
+      blocks_are = h.blocks_are;
+      copies_are = h.copies_are;
+      reports_are = h.reports_are;
+      are = fewer_keep l (sent_by side) s.end.sender (after_visit s.end.sender t.tti t.order) s.end.numbers h.loads
+          (visit_fewer s.end.sender t.tti t.order) h.are;
+      busy = λ x. sym (or_none s.busy) ∙ h.busy x;
+    };
+    pdus_are = refl;
   };
 }
 
-pub visits : (side : Side) (l : ℕ) (s : Station) (n m : BearerEnd) (t : Turn) → Matches side l s n
+pub visits : (side : Side) (l : ℕ) (s : Station) (n m : BearerEnd) (t : Turn) (h : Matches side l s n)
     → IsGivenCall (Visits t) → IsVisiting (visit t.tti t.order s.end) s t
     → Acts side l (station_calls s (Visits t)) m n (calls_of l s.end (Visits t))
+    (behind_call l s.end (Visits t) (all_pdus h.loads))
 unfolding built
 visits side l s n m t h g b =
     visits_by side l s n m t (visit t.tti t.order s.end) refl h (come_more side s.end (Visits t) h.come g) b g.0

@@ -2,13 +2,13 @@
 use Rattle.std.proofs.Common.{◌≡◌, ℕ, Option, Some, None, List, [], ◌∷◌, ◌++◌, slice_get, refl, ap, sym, subst}
 use Rattle.std.proofs.Common.{append-nil, ◌∙◌}
 use Rattle.std.specs.List.{AllByRecursion}
-use Rattle.law_rlc.specs.AmPair.Flow.{Copy}
+use Rattle.law_rlc.specs.AmPair.Flow.{Copy, Report}
 use Rattle.bearer.specs.Acknowledged.State.{State}
 use Rattle.law_bearer.specs.AnyBearer.Calls.{Call as BearerCall, Submit, Take, Arrive, Expire, Tick, SetDiscard}
 use Rattle.l2_types.specs.declared.side.Side.TheVariants.{Nb, Ue}
 use Rattle.law_deliver.specs.AmFlow.Air.{Station, Air, Act, Step as LinkStep, AtNb, AtUe, Passes, does as station_does}
 use Rattle.law_deliver.specs.AmFlow.Air.{IsDone, IsGiven}
-use Rattle.law_deliver.specs.AmFlow.Pair.{SentStatus, BearerEnd, Pair, Deed, Calls as CallsBearer, DataComes}
+use Rattle.law_deliver.specs.AmFlow.Pair.{BearerEnd, Pair, Deed, Calls as CallsBearer, DataComes}
 use Rattle.law_deliver.specs.AmFlow.Pair.{StatusComes}
 use Rattle.law_deliver.specs.AmFlow.Pair.{DataGoes, StatusGoes, Step, Near, Far, Passes as PairPasses, called}
 use Rattle.law_deliver.specs.AmFlow.Pair.{data_comes, status_comes, does as deed_does, happens, goes}
@@ -66,7 +66,7 @@ data_rest : (o : Option Copy) (e : BearerEnd) (cs : List BearerCall) → AreAllo
 data_rest None e cs h = h
 data_rest (Some c) e cs h = h.1
 
-status_rest : (o : Option SentStatus) (e : BearerEnd) (cs : List BearerCall) → AreAllowed e.bearer (status_call o ++ cs)
+status_rest : (o : Option Report) (e : BearerEnd) (cs : List BearerCall) → AreAllowed e.bearer (status_call o ++ cs)
     → AreAllowed (status_comes e o).bearer cs
 status_rest None e cs h = h
 status_rest (Some s) e cs h = h.1
@@ -135,7 +135,7 @@ pub record SetsNone (l : ℕ) (a : Air) (x : AirStep) : Type 0 where
 walks_nb : (l : ℕ) (a : Air) (x : Act) (p : Pair) → IsDone l a.nb x → SetNone l (calls_by a.ue x)
     → Matches Nb l a.nb p.near → Matches Ue l a.ue p.far → Ready l a p → Walks l a (AtNb x) p
 walks_nb l a x p g none h k ready =
-    let r : Acts Nb l (station_does a.ue a.nb x) p.far p.near (act_calls l a.ue a.nb x) =
+    let r : Acts Nb l (station_does a.ue a.nb x) p.far p.near (act_calls l a.ue a.nb x) _ =
     acts Nb Ue l a.nb a.ue p.near p.far x refl h k g in
     let same : goes (steps_at Nb r.deeds) p ≡ record { near = does_all p.far p.near r.deeds; far = p.far } =
     goes_at Nb p r.deeds in
@@ -143,7 +143,7 @@ walks_nb l a x p g none h k ready =
     record {
       steps = steps_at Nb r.deeds;
       lived = near_lived p r.deeds r.done (subst (AreAllowed p.near.bearer) (sym r.calls_are) may);
-      nb = subst (λ (q : Pair). Matches Nb l (station_does a.ue a.nb x) q.near) (sym same) r.matches;
+      nb = subst (λ (q : Pair). Matches Nb l (station_does a.ue a.nb x) q.near) (sym same) r.now.matches;
       ue = subst (λ (q : Pair). Matches Ue l a.ue q.far) (sym same) k;
       nb_does = does_as Nb (steps_at Nb r.deeds) p ∙ near_does p r.deeds ∙ ap as_steps r.calls_are
           ∙ sym (act_steps l a.ue a.nb x g);
@@ -163,7 +163,7 @@ walks_nb l a x p g none h k ready =
 walks_ue : (l : ℕ) (a : Air) (x : Act) (p : Pair) → IsDone l a.ue x → SetNone l (calls_by a.nb x)
     → Matches Nb l a.nb p.near → Matches Ue l a.ue p.far → Ready l a p → Walks l a (AtUe x) p
 walks_ue l a x p g none h k ready =
-    let r : Acts Ue l (station_does a.nb a.ue x) p.near p.far (act_calls l a.nb a.ue x) =
+    let r : Acts Ue l (station_does a.nb a.ue x) p.near p.far (act_calls l a.nb a.ue x) _ =
     acts Ue Nb l a.ue a.nb p.far p.near x refl k h g in
     let same : goes (steps_at Ue r.deeds) p ≡ record { near = p.near; far = does_all p.near p.far r.deeds } =
     goes_at Ue p r.deeds in
@@ -172,7 +172,7 @@ walks_ue l a x p g none h k ready =
       steps = steps_at Ue r.deeds;
       lived = far_lived p r.deeds r.done (subst (AreAllowed p.far.bearer) (sym r.calls_are) may);
       nb = subst (λ (q : Pair). Matches Nb l a.nb q.near) (sym same) h;
-      ue = subst (λ (q : Pair). Matches Ue l (station_does a.nb a.ue x) q.far) (sym same) r.matches;
+      ue = subst (λ (q : Pair). Matches Ue l (station_does a.nb a.ue x) q.far) (sym same) r.now.matches;
       nb_does = does_as Nb (steps_at Ue r.deeds) p ∙ near_rests p r.deeds;
       ue_does = does_as Ue (steps_at Ue r.deeds) p ∙ far_does p r.deeds ∙ ap as_steps r.calls_are
           ∙ sym (act_steps l a.nb a.ue x g);

@@ -3,7 +3,8 @@ use Rattle.std.proofs.Common.{◌≡◌, ℕ, ◌-◌, false, List, [], ◌∷�
 use Rattle.std.proofs.Common.{append-nil, refl, ap, sym, subst, ◌∙◌}
 use Rattle.std.specs.List.{AllByRecursion}
 use Rattle.law_rlc.specs.AmReceiver.Run.{Arrive as Hears-it, state_after}
-use Rattle.law_rlc.specs.AmPair.Flow.{Copy, DataGoes as LetsDataGo, StatusGoes as LetsStatusGo, Passes as TtiPasses}
+use Rattle.law_rlc.specs.AmPair.Flow.{Copy, Report, DataGoes as LetsDataGo, StatusGoes as LetsStatusGo}
+use Rattle.law_rlc.specs.AmPair.Flow.{Passes as TtiPasses}
 use Rattle.law_rlc.specs.AmPair.Flow.{except}
 use Rattle.law_rlc.specs.AmPair.Statuses.{reduced}
 use Rattle.rlc_pdu.specs.declared.Landed.TheVariants.{Clash}
@@ -22,12 +23,13 @@ use Rattle.law_bearer.specs.AmBearer.Calls.{IsIdle, tells, ups_among}
 use Rattle.law_deliver.specs.AmDelivery.Arrival.{said_in, heard_in, said_by, heard_by}
 use Rattle.law_deliver.specs.AmDelivery.Ends.{submitted_by}
 use Rattle.law_deliver.specs.AmDelivery.Lives.{call_by, call_of, calls_in, ups_by}
-use Rattle.law_deliver.specs.AmFlow.Pair.{SentStatus, BearerEnd, Deed, Calls, DataComes, StatusComes, DataGoes}
+use Rattle.law_deliver.specs.AmFlow.Pair.{BearerEnd, Deed, Calls, DataComes, StatusComes, DataGoes}
 use Rattle.law_deliver.specs.AmFlow.Pair.{StatusGoes}
 use Rattle.law_deliver.specs.AmFlow.Pair.{called, calls, arrives, data_comes as data_comes_to}
 use Rattle.law_deliver.specs.AmFlow.Pair.{status_comes as status_comes_to, does, older, passed, IsCalling, IsDone}
-use Rattle.law_deliver.specs.AmFlow.Pair.{IsYoung, data_by}
-use Rattle.law_deliver.proofs.AmFlow.Flows.{data_read, ReadsStatus, status_read, let_go, ages, are_young}
+use Rattle.law_deliver.specs.AmFlow.Pair.{data_by}
+use Rattle.law_rlc.specs.AmPair.Given.{IsYoung}
+use Rattle.law_deliver.proofs.AmFlow.Flows.{data_read, ReadsStatus, status_read, ages}
 use Rattle.law_pdcp.specs.OneEnd.Lives.{queue}
 use Rattle.pdcp_pdu.specs.declared.PdcpKind.TheVariants.{Srb}
 use Rattle.pdcp_tx.specs.State.{State as Sending, refusal, submitted}
@@ -257,21 +259,19 @@ data_go out inn e o sent up got back k c q h =
 
 -- ---- a STATUS comes
 
-status_by : (out inn : Way) (e o : BearerEnd) (sent up got back : List (List ℕ)) (k : ℕ) (s : SentStatus)
+status_by : (out inn : Way) (e o : BearerEnd) (sent up got back : List (List ℕ)) (k : ℕ) (s : Report)
     (j : Joined out e o sent up) → ReadsStatus (flow_by out j.steps) k s → Joined inn o e back got
     → IsSignalling e.bearer → IsSignalling o.bearer
     → Done out (with_told (Comes s.octets ∷ []) inn) (arrives e s.octets) o (sent ++ []) up
     (got ++ ups_among (tells e.bearer (Arrive s.octets))) back (losses (tells e.bearer (Arrive s.octets)))
 status_by out inn e o sent up got back k s j r i own other =
-    subst (λ (octets : List ℕ). Done out (with_told (Comes octets ∷ []) inn) (arrives e octets) o (sent ++ []) up
-    (got ++ ups_among (tells e.bearer (Arrive octets))) back (losses (tells e.bearer (Arrive octets)))) r.same
-    (let octets = r.report.octets in
+    let octets = s.octets in
     let d = arrives e octets in
-    let y = status_comes e.bearer octets (reduced r.report) r.read own.idle in
+    let y = status_comes e.bearer octets (reduced s) r.read own.idle in
     let st = stands_so out e o sent up j in
     let there =
     out_goes out e o d o sent up [] [] [] j
-    (status_sends e (flow_by out j.steps) k r.report (reduced r.report) o.bearer.rx o.reports r.at r.read st)
+    (status_sends e (flow_by out j.steps) k s (reduced s) o.bearer.rx o.reports r.at r.read st)
     (keeps_on out (up ++ j.later) e.bearer.pdcp.tx d.bearer.pdcp.tx
     (y.keeps out.first out.protection (up ++ j.later) j.sends)) refl in
     let here =
@@ -282,13 +282,13 @@ status_by out inn e o sent up got back k s j r i own other =
       both = both_by out (with_told (Comes octets ∷ []) inn) d o sent up got back []
           (ups_among (tells e.bearer (Arrive octets))) there
           (told_as inn o d back (got ++ ups_among (tells e.bearer (Arrive octets))) [] (Comes octets ∷ [])
-          (sym (hears_status octets (reduced r.report) inn.told r.read))
+          (sym (hears_status octets (reduced s) inn.told r.read))
           (up_as inn o d back got (ups_among (tells e.bearer (Arrive octets))) y.ups_is here))
           (record { kind = y.stays.kind ∙ own.kind; idle = y.stays.idle }) other;
       none = y.none_lost;
-    })
+    }
 
-status_go : (out inn : Way) (e o : BearerEnd) (sent up got back : List (List ℕ)) (k : ℕ) (s : SentStatus)
+status_go : (out inn : Way) (e o : BearerEnd) (sent up got back : List (List ℕ)) (k : ℕ) (s : Report)
     → slice_get o.reports k ≡ Some s → Both out inn e o sent up got back
     → Done out (with_told (Comes s.octets ∷ []) inn) (arrives e s.octets) o (sent ++ []) up
     (got ++ ups_among (tells e.bearer (Arrive s.octets))) back (losses (tells e.bearer (Arrive s.octets)))
@@ -339,7 +339,7 @@ status_lost out inn e o sent up got back k h =
       sender_is = s.sender_is;
       receiver_is = s.receiver_is;
       copies_are = s.copies_are;
-      reports_are = let_go k f.reports ∙ ap (except k) s.reports_are;
+      reports_are = ap (except k) s.reports_are;
       busy_is = s.busy_is;
     })) refl refl in
     let there =
@@ -370,7 +370,7 @@ data_does out inn e o sent up got back k None q h =
     record { both = nothing_done out inn e o sent up got back h; none = refl }
 data_does out inn e o sent up got back k (Some c) q h = data_go out inn e o sent up got back k c q h
 
-status_does : (out inn : Way) (e o : BearerEnd) (sent up got back : List (List ℕ)) (k : ℕ) (x : Option SentStatus)
+status_does : (out inn : Way) (e o : BearerEnd) (sent up got back : List (List ℕ)) (k : ℕ) (x : Option Report)
     → slice_get o.reports k ≡ x → Both out inn e o sent up got back
     → Done (with_told (says_in e.bearer (call_of x)) out) (with_told (hears_in (call_of x)) inn) (status_comes_to e x) o
     (sent ++ submitted_by (call_of x)) up (got ++ ups_by e.bearer (call_of x)) back
@@ -403,7 +403,7 @@ passes_on w e o sent up young j =
     let f = flow_by w j.steps in
     none_goes w e o (passed e) (passed o) sent up j
     (calm_goes f TtiPasses e.bearer.tx o.bearer.rx e.copies (map older o.reports) false [] refl
-    (are_young f.reports (subst (λ (l : List SentStatus). AllByRecursion IsYoung l) (sym s.reports_are) young))
+    (subst (λ (l : List Report). AllByRecursion IsYoung l) (sym s.reports_are) young)
     (record { stays = refl; none = refl }) (record {
       sender_is = s.sender_is;
       receiver_is = s.receiver_is;

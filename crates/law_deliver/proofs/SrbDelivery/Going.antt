@@ -6,7 +6,7 @@ use Rattle.rlc_am_tx.specs.Machine.{State as Sender}
 use Rattle.rlc_am_rx.specs.State.{State as Receiver}
 use Rattle.law_rlc.specs.AmReceiver.Run.{Call as ReceiverCall, Arrive, Up, Write, ExpireReorder, ExpireProhibit}
 use Rattle.law_rlc.specs.AmReceiver.Run.{TickReorder, TickProhibit}
-use Rattle.law_rlc.specs.AmPair.Flow.{Copy, Flow, Step, Receives, happens, goes}
+use Rattle.law_rlc.specs.AmPair.Flow.{Copy, Report, Flow, Step, Receives, happens, goes}
 use Rattle.law_rlc.specs.AmPair.Given.{IsGiven, AreGiven}
 use Rattle.law_rlc.specs.AmPair.Sdus.{offered, handed_up, ready}
 use Rattle.law_rlc.specs.AmPair.Arrives.{brings}
@@ -15,7 +15,6 @@ use Rattle.law_rlc.proofs.AmPair.Steps.{goes-up, step-offers}
 use Rattle.law_words.specs.Passing.{Passing}
 use Rattle.law_rlc.specs.AmArrival.Arrival.{passed_in, passed}
 use Rattle.law_bearer.specs.AnyBearer.Acknowledged.{IsOfReceiver}
-use Rattle.law_deliver.specs.AmFlow.Pair.{SentStatus}
 use Rattle.law_deliver.proofs.AmFlow.Standing.{Stands, given_more, goes_more}
 use Rattle.law_deliver.proofs.AmDelivery.Accounts.{passed_more}
 
@@ -23,7 +22,7 @@ use Rattle.law_deliver.proofs.AmDelivery.Accounts.{passed_more}
 abbrev pub total : Flow → List (List ℕ)
 total f = handed_up f ++ ready f
 
-pub record Goes (f : Flow) (tx : Sender) (rx : Receiver) (copies : List Copy) (reports : List SentStatus) (busy : Bool)
+pub record Goes (f : Flow) (tx : Sender) (rx : Receiver) (copies : List Copy) (reports : List Report) (busy : Bool)
     (sdus ups : List (List ℕ)) (ps : List Passing) : Type 0 where
   pub steps : List Step
   pub given : AreGiven f steps
@@ -32,7 +31,7 @@ pub record Goes (f : Flow) (tx : Sender) (rx : Receiver) (copies : List Copy) (r
   pub total_is : total (goes steps f) ≡ total f ++ ups
   pub passed_is : passed steps f ≡ ps
 
-pub stays : (f : Flow) (tx : Sender) (rx : Receiver) (cs : List Copy) (rs : List SentStatus) (b : Bool)
+pub stays : (f : Flow) (tx : Sender) (rx : Receiver) (cs : List Copy) (rs : List Report) (b : Bool)
     → Stands tx rx cs rs b f → Goes f tx rx cs rs b [] [] []
 stays f tx rx cs rs b h = record {
   steps = [];
@@ -54,7 +53,7 @@ calm_total f s g c =
     let h = goes-up f in
     ap (λ l. l ++ ready (happens f s)) (h.stays s g c.stays) ∙ ap (λ l. handed_up f ++ l) (h.same s g c.stays c.none)
 
-pub calm_goes : (f : Flow) (s : Step) (tx : Sender) (rx : Receiver) (cs : List Copy) (rs : List SentStatus) (b : Bool)
+pub calm_goes : (f : Flow) (s : Step) (tx : Sender) (rx : Receiver) (cs : List Copy) (rs : List Report) (b : Bool)
     (ps : List Passing) → passed_in f s ≡ ps → IsGiven f s → IsCalm s → Stands tx rx cs rs b (happens f s)
     → Goes f tx rx cs rs b (offers s) [] ps
 calm_goes f s tx rx cs rs b ps e g c h = record {
@@ -89,7 +88,7 @@ own_total f TickProhibit own = calm_total f (Receives TickProhibit) tt (record {
 more_is : (xs ys zs a b : List (List ℕ)) → ys ≡ xs ++ a → zs ≡ ys ++ b → zs ≡ xs ++ (a ++ b)
 more_is xs ys zs a b p q = q ∙ ap (λ (l : List (List ℕ)). l ++ b) p ∙ append_assoc xs a b
 
-pub goes_then : (f : Flow) (tx ty : Sender) (rx ry : Receiver) (cs ds : List Copy) (rs ss : List SentStatus)
+pub goes_then : (f : Flow) (tx ty : Sender) (rx ry : Receiver) (cs ds : List Copy) (rs ss : List Report)
     (b c : Bool) (sdus more ups later : List (List ℕ)) (ps qs : List Passing)
     → Goes f tx rx cs rs b sdus ups ps → ((g : Flow) → Stands tx rx cs rs b g → Goes g ty ry ds ss c more later qs)
     → Goes f ty ry ds ss c (sdus ++ more) (ups ++ later) (ps ++ qs)
@@ -110,7 +109,7 @@ goes_then f tx ty rx ry cs ds rs ss b c sdus more ups later ps qs m go =
     }
 
 -- the same in another form
-pub goes_as : (f : Flow) (tx : Sender) (rx : Receiver) (cs : List Copy) (rs : List SentStatus) (b : Bool)
+pub goes_as : (f : Flow) (tx : Sender) (rx : Receiver) (cs : List Copy) (rs : List Report) (b : Bool)
     (sdus more ups later : List (List ℕ)) (ps qs : List Passing) → sdus ≡ more → ups ≡ later → ps ≡ qs
     → Goes f tx rx cs rs b sdus ups ps → Goes f tx rx cs rs b more later qs
 goes_as f tx rx cs rs b sdus more ups later ps qs p q r m = record {

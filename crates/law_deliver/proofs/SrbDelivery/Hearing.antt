@@ -11,7 +11,7 @@ use Rattle.rlc_am_rx.specs.State.{State as Receiver}
 use Rattle.rlc_am_rx.specs.Machine.{written}
 use Rattle.law_rlc.specs.AmReceiver.Run.{Call as ReceiverCall, Arrive as Hears, Up, Write, ExpireReorder}
 use Rattle.law_rlc.specs.AmReceiver.Run.{ExpireProhibit, TickReorder, TickProhibit, World as ReceiverWorld, state_after}
-use Rattle.law_rlc.specs.AmPair.Flow.{Copy, Flow, Receives, Reports, DataComes, receiver, data_read, data_comes}
+use Rattle.law_rlc.specs.AmPair.Flow.{Copy, Report, Flow, Receives, Reports, DataComes, receiver, data_read, data_comes}
 use Rattle.law_rlc.specs.AmPair.Flow.{happens}
 use Rattle.law_rlc.specs.AmPair.Given.{IsReceiving}
 use Rattle.law_words.specs.Passing.{Passing, Comes}
@@ -27,8 +27,8 @@ use Rattle.bearer.specs.Acknowledged.Taking.{writes_status, status_pdu}
 use Rattle.law_bearer.specs.AnyBearer.Calls.{Call, Submit, Take, Arrive, Expire, Tick, SetDiscard}
 use Rattle.law_bearer.specs.AnyBearer.Acknowledged.{hears_on, data_heard, receiver_calls, IsOfReceiver, ReceiverGoes}
 use Rattle.law_bearer.proofs.AnyBearer.ReceiverCalls.{receiver_goes_on}
-use Rattle.law_deliver.specs.AmFlow.Pair.{SentStatus, BearerEnd, called, status_by, written_now, IsCalling}
-use Rattle.law_deliver.proofs.AmFlow.Hearing.{is_reported, receives_one}
+use Rattle.law_deliver.specs.AmFlow.Pair.{BearerEnd, called, status_by, written_now, IsCalling}
+use Rattle.law_deliver.proofs.AmFlow.Hearing.{is_reported, receives_one, reports_with}
 use Rattle.law_deliver.proofs.AmFlow.Sending.{is_called}
 use Rattle.law_deliver.proofs.AmFlow.Standing.{Stands}
 use Rattle.law_deliver.proofs.SrbDelivery.Going.{total, Goes, stays, calm_goes, own_total, goes_then, goes_as}
@@ -44,7 +44,7 @@ own_is ExpireProhibit own = tt
 own_is TickReorder own = tt
 own_is TickProhibit own = tt
 
-own_one : (f : Flow) (c : ReceiverCall) (tx : Sender) (rx : Receiver) (cs : List Copy) (rs : List SentStatus) (b : Bool)
+own_one : (f : Flow) (c : ReceiverCall) (tx : Sender) (rx : Receiver) (cs : List Copy) (rs : List Report) (b : Bool)
     → IsOfReceiver c → Stands tx rx cs rs b f → Goes f tx (state_after rx c) cs rs b [] [] []
 own_one f c tx rx cs rs b own h = record {
   steps = Receives c ∷ [];
@@ -55,7 +55,7 @@ own_one f c tx rx cs rs b own h = record {
   passed_is = refl;
 }
 
-own_all : (own : List ReceiverCall) (f : Flow) (tx : Sender) (rx : Receiver) (cs : List Copy) (rs : List SentStatus)
+own_all : (own : List ReceiverCall) (f : Flow) (tx : Sender) (rx : Receiver) (cs : List Copy) (rs : List Report)
     (b : Bool)
     → AllByRecursion IsOfReceiver own → Stands tx rx cs rs b f → Goes f tx (hears_on own rx) cs rs b [] [] []
 own_all [] f tx rx cs rs b are h = stays f tx rx cs rs b h
@@ -65,32 +65,32 @@ own_all (c ∷ own) f tx rx cs rs b are h =
     (λ g k. own_all own g tx (state_after rx c) cs rs b are.1 k)
 
 -- a call that brings nothing to the receiver and takes nothing from there
-keeps_to_itself : (f : Flow) (tx : Sender) (rx ry : Receiver) (cs : List Copy) (rs : List SentStatus) (b : Bool)
+keeps_to_itself : (f : Flow) (tx : Sender) (rx ry : Receiver) (cs : List Copy) (rs : List Report) (b : Bool)
     → ReceiverGoes rx ry [] → Stands tx rx cs rs b f → Goes f tx ry cs rs b [] [] []
 keeps_to_itself f tx rx ry cs rs b m h =
     subst (λ (r : Receiver). Goes f tx r cs rs b [] [] []) (sym m.left) (own_all m.own f tx rx cs rs b m.are_own h)
 
 -- ---- a STATUS is written
 
-reports_one : (f : Flow) (share : ℕ) (tx : Sender) (rx : Receiver) (cs : List Copy) (rs : List SentStatus) (b : Bool)
-    → Stands tx rx cs rs b f → Goes f tx (written rx) cs (written_now (status_pdu rx share) ∷ rs) b [] [] []
+reports_one : (f : Flow) (share : ℕ) (tx : Sender) (rx : Receiver) (cs : List Copy) (rs : List Report) (b : Bool)
+    → Stands tx rx cs rs b f → Goes f tx (written rx) cs (written_now rx share (status_pdu rx share) ∷ rs) b [] [] []
 reports_one f share tx rx cs rs b h =
     let octets = status_pdu rx share in
-    calm_goes f (Reports (share - 3) octets) tx (written rx) cs (written_now octets ∷ rs) b [] refl
+    calm_goes f (Reports (share - 3) octets) tx (written rx) cs (written_now rx share octets ∷ rs) b [] refl
     (is_reported f rx share h.receiver_is) (record { stays = refl; none = refl }) (record {
       sender_is = h.sender_is;
       receiver_is = ap (λ (w : ReceiverWorld). w.state) (receiver-more f Write) ∙ ap written h.receiver_is;
       copies_are = h.copies_are;
-      reports_are = ap (λ (l : List SentStatus). written_now octets ∷ l) h.reports_are;
+      reports_are = reports_with f share octets rx rs h.receiver_is h.reports_are;
       busy_is = h.busy_is;
     })
 
-takes_by : (w : Bool) (f : Flow) (share : ℕ) (tx : Sender) (rx ry : Receiver) (cs : List Copy) (rs : List SentStatus)
+takes_by : (w : Bool) (f : Flow) (share : ℕ) (tx : Sender) (rx ry : Receiver) (cs : List Copy) (rs : List Report)
     (b : Bool)
     → ReceiverGoes rx ry (if w then Write ∷ [] else []) → Stands tx rx cs rs b f
-    → Goes f tx ry cs (map written_now (if w then status_pdu rx share ∷ [] else []) ++ rs) b [] [] []
+    → Goes f tx ry cs (map (written_now rx share) (if w then status_pdu rx share ∷ [] else []) ++ rs) b [] [] []
 takes_by true f share tx rx ry cs rs b m h =
-    let ss : List SentStatus = written_now (status_pdu rx share) ∷ rs in
+    let ss : List Report = written_now rx share (status_pdu rx share) ∷ rs in
     subst (λ (r : Receiver). Goes f tx r cs ss b [] [] []) (sym m.left)
     (goes_then f tx tx (written rx) (hears_on m.own (written rx)) cs cs ss ss b b [] [] [] [] [] []
     (reports_one f share tx rx cs rs b h) (λ g k. own_all m.own g tx (written rx) cs ss b m.are_own k))
@@ -107,7 +107,7 @@ quiet e d f tx cs b m h = keeps_to_itself f tx e.bearer.rx d.rx cs e.reports b m
 
 pub calls_hear : (e : BearerEnd) (c : Call) (f : Flow) (tx : Sender) (cs : List Copy) (b : Bool) → IsCalling e c
     → Stands tx e.bearer.rx cs e.reports b f
-    → Goes f tx (called e.bearer c).rx cs (map written_now (status_by e.bearer c) ++ e.reports) b [] [] []
+    → Goes f tx (called e.bearer c).rx cs (status_by e.bearer c ++ e.reports) b [] [] []
 calls_hear e (Submit sdu) f tx cs b g h =
     quiet e (called e.bearer (Submit sdu)) f tx cs b (called_so e.bearer (Submit sdu)) h
 calls_hear e (Take share held) f tx cs b g h =
@@ -144,7 +144,7 @@ data_total f k rx sound none is =
     ∙ ap (λ l. l ++ rx.out.ready) (sym (append-nil (handed_up f)) ∙ ap (λ l. handed_up f ++ l) (sym before))
 
 data_at : (f : Flow) (k : ℕ) (c : Copy) (pdu : AmdPdu) (tx : Sender) (rx : Receiver) (cs : List Copy)
-    (rs : List SentStatus)
+    (rs : List Report)
     (b : Bool)
     → slice_get f.copies k ≡ Some c → am_at c.octets ≡ Ok (Payload pdu) → IsSound f → rx.out.ready ≡ []
     → Stands tx rx cs rs b f

@@ -24,7 +24,7 @@ use Rattle.law_bearer.specs.AnyBearer.Sending.{sends_on}
 use Rattle.law_bearer.specs.AnyBearer.Acknowledged.{offers_in, offered_to, has_more_behind, data_given, status_heard}
 use Rattle.law_bearer.specs.AnyBearer.Acknowledged.{sender_calls, IsOfSender, SenderGoes}
 use Rattle.law_bearer.proofs.AnyBearer.SenderCalls.{sends_then, sender_goes_on}
-use Rattle.law_deliver.specs.AmFlow.Pair.{SentStatus, BearerEnd, called, data_by, HasOctet, IsTaking, IsCalling}
+use Rattle.law_deliver.specs.AmFlow.Pair.{BearerEnd, called, data_by, HasOctet, IsTaking, IsCalling}
 use Rattle.law_deliver.proofs.AmFlow.Sending.{is_called, sent_one}
 use Rattle.law_deliver.proofs.AmFlow.Standing.{Stands}
 use Rattle.law_deliver.proofs.SrbDelivery.Going.{Goes, stays, calm_goes, goes_then, goes_as, not_busy}
@@ -40,7 +40,7 @@ offers_by b (SetDiscard ttis) = []
 
 -- ---- one call of the sender
 
-sends_one : (f : Flow) (c : SenderCall) (tx : Sender) (rx : Receiver) (cs : List Copy) (rs : List SentStatus) (b : Bool)
+sends_one : (f : Flow) (c : SenderCall) (tx : Sender) (rx : Receiver) (cs : List Copy) (rs : List Report) (b : Bool)
     → IsSending f c → Stands tx rx cs rs b f
     → Goes f (sender_after tx c) rx (copies_with (given_by tx c) cs) rs (b || is_new (given_by tx c))
     (offers_with c []) [] (written_in (given_by tx c))
@@ -50,12 +50,12 @@ sends_one f c tx rx cs rs b g h =
     (record { stays = refl; none = refl }) (sent_one f c tx rx cs rs b h)
 
 -- one that gives no PDU
-gives_none : (f : Flow) (tx : Sender) (rx : Receiver) (cs : List Copy) (rs : List SentStatus) (b : Bool)
+gives_none : (f : Flow) (tx : Sender) (rx : Receiver) (cs : List Copy) (rs : List Report) (b : Bool)
     (sdus : List (List ℕ))
     → Goes f tx rx cs rs (b || false) sdus [] [] → Goes f tx rx cs rs b sdus [] []
 gives_none f tx rx cs rs b sdus h = subst (λ (x : Bool). Goes f tx rx cs rs x sdus [] []) (not_busy b) h
 
-own_one : (f : Flow) (c : SenderCall) (tx : Sender) (rx : Receiver) (cs : List Copy) (rs : List SentStatus) (b : Bool)
+own_one : (f : Flow) (c : SenderCall) (tx : Sender) (rx : Receiver) (cs : List Copy) (rs : List Report) (b : Bool)
     → IsOfSender c → Stands tx rx cs rs b f → Goes f (sender_after tx c) rx cs rs b [] [] []
 own_one f (Offer sdu) tx rx cs rs b own h = absurd own
 own_one f (Taking size held more) tx rx cs rs b own h = absurd own
@@ -69,7 +69,7 @@ own_one f (Settle more) tx rx cs rs b own h =
 own_one f Confirm tx rx cs rs b own h =
     gives_none f (sender_after tx Confirm) rx cs rs b [] (sends_one f Confirm tx rx cs rs b tt h)
 
-own_all : (own : List SenderCall) (f : Flow) (tx : Sender) (rx : Receiver) (cs : List Copy) (rs : List SentStatus)
+own_all : (own : List SenderCall) (f : Flow) (tx : Sender) (rx : Receiver) (cs : List Copy) (rs : List Report)
     (b : Bool)
     → AllByRecursion IsOfSender own → Stands tx rx cs rs b f → Goes f (sends_on own tx) rx cs rs b [] [] []
 own_all [] f tx rx cs rs b are h = stays f tx rx cs rs b h
@@ -79,14 +79,14 @@ own_all (c ∷ own) f tx rx cs rs b are h =
     (λ g k. own_all own g (sender_after tx c) rx cs rs b are.1 k)
 
 -- a call that brings nothing to the sender and takes nothing from there
-keeps_to_itself : (f : Flow) (tx ty : Sender) (rx : Receiver) (cs : List Copy) (rs : List SentStatus) (b : Bool)
+keeps_to_itself : (f : Flow) (tx ty : Sender) (rx : Receiver) (cs : List Copy) (rs : List Report) (b : Bool)
     → SenderGoes tx ty [] → Stands tx rx cs rs b f → Goes f ty rx cs rs b [] [] []
 keeps_to_itself f tx ty rx cs rs b m h =
     subst (λ (t : Sender). Goes f t rx cs rs b [] [] []) (sym m.left) (own_all m.own f tx rx cs rs b m.are_own h)
 
 -- ---- a take
 
-pub offers_all : (sdus : List (List ℕ)) (f : Flow) (tx : Sender) (rx : Receiver) (cs : List Copy) (rs : List SentStatus)
+pub offers_all : (sdus : List (List ℕ)) (f : Flow) (tx : Sender) (rx : Receiver) (cs : List Copy) (rs : List Report)
     (b : Bool)
     → AllByRecursion HasOctet sdus → Stands tx rx cs rs b f
     → Goes f (sends_on (map (λ sdu. Offer sdu) sdus) tx) rx cs rs b sdus [] []
@@ -98,7 +98,7 @@ offers_all (sdu ∷ sdus) f tx rx cs rs b some h =
     (gives_none f (sender_after tx c) rx cs rs b (sdu ∷ []) (sends_one f c tx rx cs rs b some.0 h))
     (λ g k. offers_all sdus g (sender_after tx c) rx cs rs b some.1 k)
 
-takes_one : (e : BearerEnd) (share : ℕ) (held : Option ℕ) (f : Flow) (rx : Receiver) (rs : List SentStatus)
+takes_one : (e : BearerEnd) (share : ℕ) (held : Option ℕ) (f : Flow) (rx : Receiver) (rs : List Report)
     → IsTaking e share held → Stands (offered_to e.bearer share held) rx e.copies rs e.busy f
     → Goes f (after_take (offered_to e.bearer share held) (data_size e.bearer share) held
     (has_more_behind e.bearer share held)) rx (copies_with (data_given e.bearer share held) e.copies) rs
@@ -114,7 +114,7 @@ takes_one e share held f rx rs t h =
       one = λ q. ap (λ (x : Sender). is_new (answer x size held more)) h.sender_is ∙ t.one (sym h.busy_is ∙ q);
     }) h
 
-takes_all : (e : BearerEnd) (share : ℕ) (held : Option ℕ) (f : Flow) (rx : Receiver) (rs : List SentStatus)
+takes_all : (e : BearerEnd) (share : ℕ) (held : Option ℕ) (f : Flow) (rx : Receiver) (rs : List Report)
     → IsTaking e share held
     → SenderGoes e.bearer.tx (called e.bearer (Take share held)).tx (sender_calls e.bearer (Take share held))
     → Stands e.bearer.tx rx e.copies rs e.busy f
@@ -145,7 +145,7 @@ takes_all e share held f rx rs t m h =
 
 -- ---- any call
 
-quiet : (e : BearerEnd) (d : State) (f : Flow) (rx : Receiver) (rs : List SentStatus) → SenderGoes e.bearer.tx d.tx []
+quiet : (e : BearerEnd) (d : State) (f : Flow) (rx : Receiver) (rs : List Report) → SenderGoes e.bearer.tx d.tx []
     → Stands e.bearer.tx rx e.copies rs e.busy f → Goes f d.tx rx e.copies rs (e.busy || false) [] [] []
 quiet e d f rx rs m h =
     subst (λ (x : Bool). Goes f d.tx rx e.copies rs x [] [] []) (sym (not_busy e.busy))
@@ -154,7 +154,7 @@ quiet e d f rx rs m h =
 called_so : (b : State) (c : Call) → SenderGoes b.tx (called b c).tx (sender_calls b c)
 called_so b c = sender_goes_on b (called b c) c (is_called b c)
 
-pub calls_send : (e : BearerEnd) (c : Call) (f : Flow) (rx : Receiver) (rs : List SentStatus) → IsCalling e c
+pub calls_send : (e : BearerEnd) (c : Call) (f : Flow) (rx : Receiver) (rs : List Report) → IsCalling e c
     → Stands e.bearer.tx rx e.copies rs e.busy f
     → Goes f (called e.bearer c).tx rx (copies_with (data_by e.bearer c) e.copies) rs
     (e.busy || is_new (data_by e.bearer c)) (offers_by e.bearer c) [] (written_in (data_by e.bearer c))
@@ -171,7 +171,7 @@ calls_send e (SetDiscard ttis) f rx rs g h =
 -- ---- a PDU comes
 
 -- a data PDU is nothing to the sender
-pub data_sends : (e : BearerEnd) (octets : List ℕ) (f : Flow) (rx : Receiver) (rs : List SentStatus)
+pub data_sends : (e : BearerEnd) (octets : List ℕ) (f : Flow) (rx : Receiver) (rs : List Report)
     → status_heard (am_at octets) ≡ [] → Stands e.bearer.tx rx e.copies rs e.busy f
     → Goes f (called e.bearer (Arrive octets)).tx rx e.copies rs e.busy [] [] []
 data_sends e octets f rx rs q h =
@@ -181,7 +181,7 @@ data_sends e octets f rx rs q h =
     (sender_goes_on e.bearer d (Arrive octets) (is_called e.bearer (Arrive octets)))) h
 
 status_at : (f : Flow) (k : ℕ) (r : Report) (pdu : StatusPdu) (tx : Sender) (rx : Receiver) (cs : List Copy)
-    (rs : List SentStatus) (b : Bool)
+    (rs : List Report) (b : Bool)
     → slice_get f.reports k ≡ Some r → am_at r.octets ≡ Ok (Control pdu) → Stands tx rx cs rs b f
     → Goes f (sender_after tx (Status pdu)) rx cs rs b [] [] []
 status_at f k r pdu tx rx cs rs b q read h =
@@ -202,7 +202,7 @@ status_at f k r pdu tx rx cs rs b q read h =
 
 -- a STATUS that stands at a place comes
 pub status_sends : (e : BearerEnd) (f : Flow) (k : ℕ) (r : Report) (pdu : StatusPdu) (rx : Receiver)
-    (rs : List SentStatus)
+    (rs : List Report)
     → slice_get f.reports k ≡ Some r → am_at r.octets ≡ Ok (Control pdu) → Stands e.bearer.tx rx e.copies rs e.busy f
     → Goes f (called e.bearer (Arrive r.octets)).tx rx e.copies rs e.busy [] [] []
 status_sends e f k r pdu rx rs q read h =

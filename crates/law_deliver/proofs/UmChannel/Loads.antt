@@ -2,12 +2,12 @@
 use Rattle.std.proofs.Common.{◌≡◌, ℕ, zero, suc, ◌+◌, List, [], ◌∷◌, ◌++◌, map, length, Some, None, slice_get}
 use Rattle.std.proofs.Common.{append_assoc, length-append, refl, ap, sym, subst, ◌∙◌}
 use Rattle.std.specs.List.{AllByRecursion}
-use Rattle.law_rlc.specs.AmPair.Flow.{Copy, except}
+use Rattle.law_rlc.specs.AmPair.Flow.{Copy, Report, except}
 use Rattle.harq.specs.Sending.{Sending}
 use Rattle.l2_node.specs.Finding.{Numbers}
 use Rattle.mac_pdu.specs.declared.item.Direction.{Direction}
 use Rattle.promises.specs.Pdus.{carried}
-use Rattle.law_deliver.specs.AmFlow.Pair.{SentStatus, older as older_sent}
+use Rattle.law_deliver.specs.AmFlow.Pair.{older as older_sent}
 use Rattle.law_deliver.proofs.AmFlow.Loads.{Load, all_copies, blocks_in, aged_load, IsLoad}
 use Rattle.law_deliver.proofs.AmFlow.Runs.{octets_of, texts_of}
 use Rattle.law_deliver.specs.UmChannel.Pairs.{count_before}
@@ -18,14 +18,14 @@ IsBare x = x.reports ≡ []
 
 pub aged_bare : (xs : List Load) → AllByRecursion IsBare xs → AllByRecursion IsBare (map aged_load xs)
 aged_bare [] h = tt
-aged_bare (x ∷ xs) h = (ap (λ (rs : List SentStatus). map older_sent rs) h.0, aged_bare xs h.1)
+aged_bare (x ∷ xs) h = (ap (λ (rs : List Report). map older_sent rs) h.0, aged_bare xs h.1)
 
 abbrev pub Carries : ℕ → Direction → Load → Type 0
 Carries l d x = carried l d x.block.octets ≡ octets_of x.copies
 
 pub carries_one : (l : ℕ) (d : Direction) (s : Sending) (numbers : Numbers) (x : Load) → IsLoad l d s numbers x
     → IsBare x → Carries l d x
-carries_one l d s numbers x h bare = h.carries ∙ ap (λ (rs : List SentStatus). texts_of rs ++ octets_of x.copies) bare
+carries_one l d s numbers x h bare = h.carries ∙ ap (λ (rs : List Report). texts_of rs ++ octets_of x.copies) bare
 
 pub carries_all : (l : ℕ) (d : Direction) (s : Sending) (numbers : Numbers) (xs : List Load)
     → AllByRecursion (IsLoad l d s numbers) xs → AllByRecursion IsBare xs → AllByRecursion (Carries l d) xs

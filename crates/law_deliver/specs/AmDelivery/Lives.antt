@@ -10,9 +10,9 @@ use Rattle.law_bearer.specs.AnyBearer.Calls.{Call, Arrive}
 use Rattle.law_bearer.specs.AnyBearer.Queue.{news}
 use Rattle.law_bearer.specs.AmBearer.Calls.{tells, ups_among}
 use Rattle.law_bearer.specs.AmBearer.Lives.{restarts}
-use Rattle.law_rlc.specs.AmPair.Flow.{Copy}
+use Rattle.law_rlc.specs.AmPair.Flow.{Copy, Report}
 use Rattle.law_deliver.specs.Accepted.{IsAccepted}
-use Rattle.law_deliver.specs.AmFlow.Pair.{SentStatus, BearerEnd, Pair, Deed, Calls, DataComes}
+use Rattle.law_deliver.specs.AmFlow.Pair.{BearerEnd, Pair, Deed, Calls, DataComes}
 use Rattle.law_deliver.specs.AmFlow.Pair.{StatusComes, DataGoes, StatusGoes, Step, Near, Far}
 use Rattle.law_deliver.specs.AmFlow.Pair.{Passes, happens, am_pair_outset, IsGiven}
 
@@ -58,7 +58,7 @@ abbrev pub call_by : Option Copy → List Call
 call_by None = []
 call_by (Some c) = Arrive c.octets ∷ []
 
-abbrev pub call_of : Option SentStatus → List Call
+abbrev pub call_of : Option Report → List Call
 call_of None = []
 call_of (Some s) = Arrive s.octets ∷ []
 

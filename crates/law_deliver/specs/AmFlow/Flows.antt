@@ -1,26 +1,23 @@
 -- In each direction an acknowledged bearer is a flow, of which RLC's sender and receiver are those
 -- of the bearer at both ends (TS 36.322 5.1.3, 5.2).
-use Rattle.std.specs.Prelude.{◌≡◌, List, map}
+use Rattle.std.specs.Prelude.{◌≡◌, List}
 use Rattle.l2_types.specs.declared.config.AmTxConfig.{AmTxConfig}
 use Rattle.l2_types.specs.declared.AmRxConfig.{AmRxConfig}
 use Rattle.rlc_am_tx.specs.Machine.{start}
 use Rattle.rlc_am_rx.specs.State.{fresh}
 use Rattle.bearer.specs.Acknowledged.State.{State}
-use Rattle.law_rlc.specs.AmPair.Flow.{Report, Flow, Step as FlowStep, sender, receiver}
+use Rattle.law_rlc.specs.AmPair.Flow.{Flow, Step as FlowStep, sender, receiver}
 use Rattle.law_rlc.specs.AmPair.Flow.{goes as flow_goes, am_rlc_outset}
 use Rattle.law_rlc.specs.AmPair.Given.{AreGiven as AreGivenSteps}
-use Rattle.law_deliver.specs.AmFlow.Pair.{SentStatus, BearerEnd, Pair, Step, goes, am_pair_outset}
+use Rattle.law_deliver.specs.AmFlow.Pair.{BearerEnd, Pair, Step, goes, am_pair_outset}
 use Rattle.law_deliver.specs.AmFlow.Pair.{AreGiven}
-
-abbrev pub sent_as : Report → SentStatus
-sent_as r = record { octets = r.octets; age = r.age }
 
 -- from an end to the other, with what is under way
 pub record IsFlow (from to : BearerEnd) (f : Flow) : Type 0 where
   pub sender_is : (sender f).state ≡ from.bearer.tx
   pub receiver_is : (receiver f).state ≡ to.bearer.rx
   pub copies_are : f.copies ≡ from.copies
-  pub reports_are : map sent_as f.reports ≡ to.reports
+  pub reports_are : f.reports ≡ to.reports
   pub busy_is : f.busy ≡ from.busy
 
 -- one that has come so by steps that keep what is asked of them

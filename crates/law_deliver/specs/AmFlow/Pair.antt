@@ -1,7 +1,7 @@
 -- Both ends of an acknowledged bearer in one life, and what is under way between them (TS 36.322
 -- 4.2.1.3). HARQ may lose what is under way, bring it late, in another order, and more than once;
 -- nothing else comes.
-use Rattle.std.specs.Prelude.{◌≡◌, ℕ, ◌+◌, ◌<◌, ◌≤◌, Bool, true, false, ◌||◌, List, [], ◌++◌}
+use Rattle.std.specs.Prelude.{◌≡◌, ℕ, ◌+◌, ◌-◌, ◌<◌, ◌≤◌, Bool, true, false, ◌||◌, List, [], ◌++◌}
 use Rattle.std.specs.Prelude.{map, length, Option, Some, None, slice_get}
 use Rattle.std.specs.List.{AllByRecursion}
 use Rattle.rlc_pdu.specs.declared.outcome.Taken.{Taken}
@@ -13,22 +13,18 @@ use Rattle.bearer.specs.Acknowledged.Taking.{status_pdus, data_size}
 use Rattle.law_bearer.specs.AnyBearer.Calls.{Call, Submit, Take, Arrive, Expire, Tick, SetDiscard}
 use Rattle.law_bearer.specs.AnyBearer.Calls.{after}
 use Rattle.law_bearer.specs.AnyBearer.Acknowledged.{offers_in, data_given}
-use Rattle.law_rlc.specs.AmPair.Flow.{Copy, copies_with, is_new, except}
-use Rattle.law_rlc.specs.AmPair.Given.{IsHeld}
-use Rattle.law_rlc.specs.AmPair.Given.{age_end}
+use Rattle.rlc_am_rx.specs.State.{State as Receiver}
+use Rattle.rlc_am_rx.specs.Status.{ack, chosen}
+use Rattle.law_rlc.specs.AmPair.Flow.{Copy, Report, copies_with, is_new, except}
+use Rattle.law_rlc.specs.AmPair.Given.{IsHeld, IsYoung}
 use Rattle.law_deliver.specs.Steps.{Ends, walked, AllGiven}
-
--- a STATUS that may still come: its octets, and the TTIs since it was written
-pub record SentStatus : Type 0 where
-  pub octets : List ℕ
-  pub age : ℕ
 
 -- the bearer at an end, the data PDUs and STATUS PDUs that it wrote and that may still come to the
 -- other end, and whether it sent a new data PDU in this TTI
 pub record BearerEnd : Type 0 where
   pub bearer : State
   pub copies : List Copy
-  pub reports : List SentStatus
+  pub reports : List Report
   pub busy : Bool
 
 abbrev pub Pair : Type 0
@@ -73,22 +69,31 @@ data_by b (Expire clock) = taken.Idle
 data_by b Tick = taken.Idle
 data_by b (SetDiscard ttis) = taken.Idle
 
-abbrev pub status_by : State → Call → List (List ℕ)
+-- a STATUS has 3 octets of the share for a subheader
+abbrev pub written_now : Receiver → ℕ → List ℕ → Report
+written_now rx share octets = record {
+  octets = octets;
+  age = 0;
+  ack = ack rx (share - 3);
+  entries = chosen rx (share - 3);
+}
+
+abbrev pub reports_now : Receiver → ℕ → List Report
+reports_now rx share = map (written_now rx share) (status_pdus rx share)
+
+abbrev pub status_by : State → Call → List Report
 status_by b (Submit sdu) = []
-status_by b (Take share held) = status_pdus b.rx share
+status_by b (Take share held) = reports_now b.rx share
 status_by b (Arrive pdu) = []
 status_by b (Expire clock) = []
 status_by b Tick = []
 status_by b (SetDiscard ttis) = []
 
-abbrev pub written_now : List ℕ → SentStatus
-written_now octets = record { octets = octets; age = 0 }
-
 abbrev pub calls : BearerEnd → Call → BearerEnd
 calls e c = record {
   bearer = called e.bearer c;
   copies = copies_with (data_by e.bearer c) e.copies;
-  reports = map written_now (status_by e.bearer c) ++ e.reports;
+  reports = status_by e.bearer c ++ e.reports;
   busy = e.busy || is_new (data_by e.bearer c);
 }
 
@@ -101,7 +106,7 @@ abbrev pub data_comes : BearerEnd → Option Copy → BearerEnd
 data_comes e None = e
 data_comes e (Some c) = arrives e c.octets
 
-abbrev pub status_comes : BearerEnd → Option SentStatus → BearerEnd
+abbrev pub status_comes : BearerEnd → Option Report → BearerEnd
 status_comes e None = e
 status_comes e (Some s) = arrives e s.octets
 
@@ -115,7 +120,7 @@ does other e (StatusComes k) = status_comes e (slice_get other.reports k)
 does other e (DataGoes k) = record e { copies = except k e.copies }
 does other e (StatusGoes k) = record e { reports = except k e.reports }
 
-abbrev pub older : SentStatus → SentStatus
+abbrev pub older : Report → Report
 older s = record s { age = s.age + 1 }
 
 abbrev pub passed : BearerEnd → BearerEnd
@@ -163,10 +168,6 @@ IsDone e (DataComes k) = Unit {0}
 IsDone e (StatusComes k) = Unit {0}
 IsDone e (DataGoes k) = Unit {0}
 IsDone e (StatusGoes k) = Unit {0}
-
--- as old as a STATUS may be that is under way
-abbrev pub IsYoung : SentStatus → Type 0
-IsYoung s = s.age < age_end
 
 abbrev pub IsGiven : Pair → Step → Type 0
 IsGiven p (Near d) = IsDone p.near d

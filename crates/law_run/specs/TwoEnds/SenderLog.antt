@@ -82,11 +82,13 @@ IsLoggedAs s (Expires more) es =
 IsLoggedAs s (Settle more) es = (lcid : ℕ) × (es ≡ telling (started_told lcid (settles s more)))
 IsLoggedAs s Confirm es = es ≡ []
 
--- what is told of what it takes, sends and gives up, and of its timer's expiry
+-- what is told of what it takes, sends and gives up, of its timer's expiry, and of a STATUS that
+-- it ignores
 abbrev pub is_of_flow : Event → Bool
 is_of_flow (events.Take lcid count len) = true
 is_of_flow (events.Report lcid fms bitmap) = true
 is_of_flow (events.Expired lcid Poll) = true
+is_of_flow (events.Drop lcid losts.Ignored) = true
 is_of_flow event = is_of_sender event
 
 -- all else that is logged tells nothing of that
