@@ -11,6 +11,7 @@ use Rattle.l2_types.specs.declared.AmRxConfig.{AmRxConfig}
 use Rattle.l2_types.specs.declared.event.How.TheVariants as hows
 use Rattle.l2_types.specs.declared.side.Side.{Side}
 use Rattle.l2_types.specs.declared.side.Side.TheVariants.{Nb, Ue}
+use Rattle.law_node.specs.Calls.{Call as EndCall}
 use Rattle.rlc_pdu.specs.Reading.{am_at}
 use Rattle.journal_account.specs.declared.entry.StatusEntry.{StatusEntry}
 use Rattle.journal_account.specs.FlowEvents.{FlowEvent}
@@ -59,7 +60,7 @@ ReportsAreTrue = (es : List FlowEvent) (next l : ℕ) (pdus : List (List ℕ))
 abbrev pub WritesTruly : (l : ℕ) (side : Side) (sending : AmTxConfig) (receiving : AmRxConfig)
     (from to : Station) → IsFlowOn l sending receiving from.end to.end → Type 0
 WritesTruly l side sending receiving from to out =
-    (most next : ℕ) (es : List FlowEvent) (c : _) → IsDone l to (Calls c)
+    (most next : ℕ) (es : List FlowEvent) (c : EndCall) → IsDone l to (Calls c)
     → AreEndsOf most es out.from_bearer.tx out.to_bearer.rx
     → AllByRecursion (λ octets. AreReportsTrue es next l (carried l (sent_by side) octets))
     (built_in to.end c)

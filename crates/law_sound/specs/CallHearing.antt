@@ -8,6 +8,7 @@ use Rattle.l2_node.specs.End.{End}
 use Rattle.l2_types.specs.declared.config.AmTxConfig.{AmTxConfig}
 use Rattle.l2_types.specs.declared.AmRxConfig.{AmRxConfig}
 use Rattle.l2_types.specs.declared.side.Side.TheVariants.{Nb, Ue}
+use Rattle.law_node.specs.Calls.{Call as EndCall}
 use Rattle.rlc_am_tx.specs.Machine.{State as Sender}
 use Rattle.journal_account.specs.FlowEvents.{FlowEvent}
 use Rattle.law_bearer.specs.AnyBearer.Calls.{Call, after_all}
@@ -33,7 +34,7 @@ BearersHearOver = (most l : ℕ) (es : List FlowEvent) (tx : Sender) (b d : Stat
 abbrev pub HearsCalls : (l : ℕ) (sending : AmTxConfig) (receiving : AmRxConfig) (from to : Station)
     → IsFlowOn l sending receiving from.end to.end → Type 0
 HearsCalls l sending receiving from to out =
-    (most : ℕ) (es : List FlowEvent) (c : _) → IsDone l to (Calls c)
+    (most : ℕ) (es : List FlowEvent) (c : EndCall) → IsDone l to (Calls c)
     → (behind : IsFlowOn l sending receiving from.end (calls to c).end)
     → AreEndsOf most es out.from_bearer.tx out.to_bearer.rx
     → AreEndsOf most

@@ -7,6 +7,7 @@ use Rattle.bearer.specs.declared.flow.Flow.TheVariants.{Am}
 use Rattle.bearer_types.specs.declared.event.Event.TheVariants as events
 use Rattle.l2_node.specs.End.{End}
 use Rattle.l2_types.specs.declared.event.Lost.TheVariants as losts
+use Rattle.law_node.specs.Calls.{Call as EndCall}
 use Rattle.pdcp_pdu.specs.declared.pdu.PdcpKind.{PdcpKind}
 use Rattle.rlc_am_tx.specs.Machine.{State as Sender}
 use Rattle.journal_account.specs.Acked.{ignored_in}
@@ -44,5 +45,5 @@ LogsTellIgnored =
 
 -- none comes in a call of an end that brings no block
 abbrev pub NoBlockIsIgnored : Type 0
-NoBlockIsIgnored = (l : ℕ) (e : End) (c : _) (b : State) → BringsNoBlock c
+NoBlockIsIgnored = (l : ℕ) (e : End) (c : EndCall) (b : State) → BringsNoBlock c
     → AllByRecursion ComesNone (bearer_logs l (Am b) (calls_of l e c))

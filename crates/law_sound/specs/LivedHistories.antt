@@ -11,6 +11,8 @@ use Rattle.l2_types.specs.declared.config.AmTxConfig.{AmTxConfig}
 use Rattle.l2_types.specs.declared.AmRxConfig.{AmRxConfig}
 use Rattle.l2_types.specs.declared.side.Side.{Side}
 use Rattle.l2_types.specs.declared.side.Side.TheVariants.{Nb, Ue}
+use Rattle.eps_sec.specs.declared.Keys.{Keys}
+use Rattle.law_node.specs.Calls.{Call as EndCall}
 use Rattle.rlc_am_rx.specs.State.{State as Receiver}
 use Rattle.rlc_am_tx.specs.Machine.{State as Sender}
 use Rattle.journal_account.specs.Acked.{ignored_in}
@@ -129,7 +131,7 @@ LivesBeginBeside = (l : ℕ) (nb ue : End) (b d : State) → Begins Nb l nb b �
 
 -- and so the next one does as both ends move
 abbrev pub MovesBeginBeside : Type 0
-MovesBeginBeside = (l : ℕ) (a : Air) (c : Carried) (down up : List FlowEvent) (keys : _)
+MovesBeginBeside = (l : ℕ) (a : Air) (c : Carried) (down up : List FlowEvent) (keys : Keys)
     → AreLived l a c down up → AreLived l (lives_on a (Moves keys)) carries_none [] []
 
 -- in a step of a life both histories go on
@@ -188,7 +190,7 @@ LivesGoOver = (l : ℕ) (xs : List AirStep) (a : Air) (m : Moment)
 
 -- of a side, by the history of the flow that the side hears
 abbrev pub WritesFrom : ℕ → Side → Station → List FlowEvent → Type 0
-WritesFrom l side s es = (next : ℕ) (c : _) → IsDone l s (Calls c)
+WritesFrom l side s es = (next : ℕ) (c : EndCall) → IsDone l s (Calls c)
     → AllByRecursion (λ octets. AreReportsTrue es next l (carried l (sent_by side) octets))
     (built_in s.end c)
 
