@@ -38,7 +38,7 @@ use Rattle.law_run.specs.AnyCalls.Calls as calls
 use Rattle.law_run.specs.AnyCalls.Runs.{Step, Calls}
 use Rattle.law_run.specs.TwoEnds.Coming.{none_yet}
 use Rattle.law_run.specs.TwoEnds.Going.{GoesByAir, IsStepSince}
-use Rattle.law_run.specs.TwoEnds.Logs.{LogEntry, all_tell, log_of, logged}
+use Rattle.law_run.specs.TwoEnds.Logs.{LogEntry, all_tell, log_of, no_flight, logged}
 use Rattle.law_run.specs.TwoEnds.On.{IsOn}
 use Rattle.law_run.proofs.AnyCalls.Calling.{calls_adds}
 use Rattle.law_run.proofs.AnyCalls.Going.{Seen, told_seen, told_both, own_told, other_told, run_on, over_on}
@@ -46,7 +46,7 @@ use Rattle.law_run.proofs.Flowing.{Sdus, Happened, StepLives, GoesThrough, PartL
 use Rattle.law_run.proofs.BearerWalk.{adds_one}
 use Rattle.law_run.proofs.TwoEnds.Advancing.{both_on}
 use Rattle.law_run.proofs.TwoEnds.Coming.{ends_come_by, come_as, come_by_none, steps_come}
-use Rattle.law_run.proofs.TwoEnds.Going.{calm, station, with_station, last_in, tells_more, logged_more}
+use Rattle.law_run.proofs.TwoEnds.Going.{calm, station, with_station, flight_in, tells_more, logged_more}
 use Rattle.law_run.proofs.TwoEnds.Resting.{loops_rests}
 use Rattle.law_run.proofs.TwoEnds.Stages.{Both, Stands, stands_on, quiet_events, events_unlooped, none_looped}
 use Rattle.law_run.proofs.TwoEnds.Stages.{looped_more, own_logged}
@@ -70,7 +70,7 @@ pub record Plays (l : ℕ) (ends : List AccountEntry) (p : Part) (k m : Link) : 
   pub living : AreLiving l first steps
   pub happened_is : (bits : ℕ) (from : Side)
       → happened bits l from steps first ≡ ends ++ entries_in bits l from [] m.out
-  pub logged_is : logged [] m.out
+  pub logged_is : logged no_flight m.out
       ≡ (all_tell Nb (told_over (map Receive (forged Nb)) (end_of Nb k))
       ++ all_tell Ue (told_over (map Receive (forged Ue)) (end_of Ue k))) ++ log_of steps first
   pub on : IsOn m (lives steps first)
@@ -215,14 +215,15 @@ module _ (l : ℕ) (block : List ℕ) (k : Link) (a : Air) (nothing : k.out ≡ 
         };
       }
 
-  first_logged : (from : Side) → logged [] (told from)
+  first_logged : (from : Side) → logged no_flight (told from)
       ≡ all_tell Nb (told_over (map Receive (to from Nb)) (end_of Nb k))
       ++ all_tell Ue (told_over (map Receive (to from Ue)) (end_of Ue k))
   first_logged Nb =
-      own_logged Nb (es Nb) (tells_no_loop k.nb (Receive block)) []
+      own_logged Nb (es Nb) (tells_no_loop k.nb (Receive block)) no_flight
       ∙ (ap (all_tell Nb) (sym (append-nil (es Nb))) ∙ sym (append-nil (all_tell Nb (es Nb ++ []))))
   first_logged Ue =
-      own_logged Ue (es Ue) (tells_no_loop k.ue (Receive block)) [] ∙ ap (all_tell Ue) (sym (append-nil (es Ue)))
+      own_logged Ue (es Ue) (tells_no_loop k.ue (Receive block)) no_flight
+      ∙ ap (all_tell Ue) (sym (append-nil (es Ue)))
 
   forged_plays : (from : Side) → Plays l [] Rests k (calls.after (calls.Forges from block) k)
   unfolding forges_block
@@ -242,16 +243,16 @@ module _ (l : ℕ) (block : List ℕ) (k : Link) (a : Air) (nothing : k.out ≡ 
         steps = steps;
         living = r.goes.living;
         happened_is = λ bits side.
-            let last = last_in (told from) [] in
+            let last = flight_in (told from) no_flight in
             r.goes.reads bits side last tt
             ∙ sym (ap (entries_in bits l side []) out
             ∙ (tells_more bits l side [] (told from) r.more
-            ∙ ap (λ (hs : List AccountEntry). hs ++ entries_in bits l side last r.more)
+            ∙ ap (λ (hs : List AccountEntry). hs ++ entries_in bits l side last.octets r.more)
             (quiet_events from (es from) ((writes_nothing (end_of from k)).receiving block) bits l side [])));
         logged_is =
-            let last = last_in (told from) [] in
-            ap (logged []) out
-            ∙ (logged_more [] (told from) r.more
+            let last = flight_in (told from) no_flight in
+            ap (logged no_flight) out
+            ∙ (logged_more no_flight (told from) r.more
             ∙ (ap (λ (hs : List LogEntry). hs ++ logged last r.more) (first_logged from)
             ∙ ap (λ (hs : List LogEntry). (all_tell Nb (told_over (map Receive (to from Nb)) (end_of Nb k))
             ++ all_tell Ue (told_over (map Receive (to from Ue)) (end_of Ue k))) ++ hs) (sym (r.goes.logs last tt))));

@@ -1,6 +1,6 @@
 -- What an end logs of a channel in a call is what its bearer logs.
 use Rattle.std.proofs.Common.{◌≡◌, ℕ, ◌≤◌, ◌==◌, Bool, true, false, ◌&&◌, if◌then◌else◌, Option, Some, None, List, []}
-use Rattle.std.proofs.Common.{◌∷◌, ◌++◌, map, append-nil, append_assoc, refl, ap, sym, subst, ◌∙◌}
+use Rattle.std.proofs.Common.{◌∷◌, ◌++◌, ◌%◌, slice_get, map, append-nil, append_assoc, refl, ap, sym, subst, ◌∙◌}
 use Rattle.std.specs.List.{AllByRecursion, flat_map}
 use Rattle.bearer.specs.declared.flow.Flow.{Flow}
 use Rattle.bearer.specs.Taking.{pdus}
@@ -21,7 +21,8 @@ use Rattle.prioritise.specs.Channels.{has as has_channel}
 use Rattle.law_bearer.specs.AnyBearer.Calls.{Call as BearerCall, Submit as Submits, Take as Takes, Arrive as Arrives}
 use Rattle.law_bearer.specs.AnyBearer.Calls.{Expire as Expires, Tick as Ticks, SetDiscard as SetsDiscard}
 use Rattle.law_bearer.specs.AnyBearer.Calls.{after as called}
-use Rattle.law_deliver.specs.AmFlow.Air.{Block, Air, built_at}
+use Rattle.law_deliver.specs.AmFlow.Air.{Block, Station, Air, Act, Calls, Comes as Lands, Goes, AtNb, AtUe, Passes}
+use Rattle.law_deliver.specs.AmFlow.Air.{built_at}
 use Rattle.law_deliver.specs.AmFlow.Channels.{only, share_of, held_of, takes_of, submits_of, calls_of, written_by}
 use Rattle.law_deliver.specs.AmFlow.Channels.{GoesOnInLife}
 use Rattle.law_deliver.specs.AmFlow.Ups.{AreNew, tells_in, tells_over}
@@ -37,10 +38,12 @@ use Rattle.law_node.proofs.Living.{reached_side}
 use Rattle.promises.specs.Events.{is_on, told_on}
 use Rattle.promises.specs.Pdus.{carried}
 use Rattle.law_deliver.specs.AmChannel.Arrival.{built_in}
-use Rattle.law_deliver.specs.AmChannel.Lives.{AirStep, lives_on, calls_at, all_calls, end_at}
+use Rattle.law_deliver.specs.AmChannel.Lives.{AirStep, InLife, Moves, lives_on, brought, calls_by, calls_at, all_calls}
+use Rattle.law_deliver.specs.AmChannel.Lives.{end_at}
 use Rattle.law_run.specs.TwoEnds.ChannelLog.{coming, on_channel_at, on_channel, come_in, told_in, written_in, parted}
 use Rattle.law_run.specs.TwoEnds.ChannelLog.{HasRoom, EndsLogOnChannels, SidesLogTheirCalls}
-use Rattle.law_run.specs.TwoEnds.Logs.{LogEntry, all_tell, log_in, log_at, log_of, log_over, Builds, Hears}
+use Rattle.law_run.specs.TwoEnds.Logs.{LogEntry, all_tell, log_in, log_come, log_by, log_at, log_of, log_over}
+use Rattle.law_run.specs.TwoEnds.Logs.{Builds, Hears}
 use Rattle.law_run.specs.TwoEnds.SenderLog.{BearerEntry, Tells, Writes, Comes, telling, writing, bearer_log}
 use Rattle.law_run.specs.TwoEnds.SenderLog.{bearer_logs}
 use Rattle.law_run.proofs.KeptByCalls.{said_all, said_both, said_log}
@@ -196,14 +199,14 @@ on_tells l side (e ∷ told) =
     by true = refl
     by false = refl
 
-on_builds : (l : ℕ) (side : Side) (blocks : List (List ℕ))
-    → on_channel l side (map (λ (octets : List ℕ). Builds side octets) blocks)
+on_builds : (l process : ℕ) (side : Side) (blocks : List (List ℕ))
+    → on_channel l side (map (λ (octets : List ℕ). Builds side process octets) blocks)
     ≡ writing (flat_map (carried l (sent_by side)) blocks)
-on_builds l side [] = refl
-on_builds l side (b ∷ bs) =
+on_builds l process side [] = refl
+on_builds l process side (b ∷ bs) =
     ap (λ (x : Bool). (if x then writing (carried l (sent_by side) b) else [])
-    ++ on_channel l side (map (λ (octets : List ℕ). Builds side octets) bs)) (same_side side)
-    ∙ (ap (λ (es : List BearerEntry). writing (carried l (sent_by side) b) ++ es) (on_builds l side bs)
+    ++ on_channel l side (map (λ (octets : List ℕ). Builds side process octets) bs)) (same_side side)
+    ∙ (ap (λ (es : List BearerEntry). writing (carried l (sent_by side) b) ++ es) (on_builds l process side bs)
     ∙ sym (more (carried l (sent_by side) b) (flat_map (carried l (sent_by side)) bs)))
   where
     more : (ps qs : List (List ℕ)) → writing (ps ++ qs) ≡ writing ps ++ writing qs
@@ -270,11 +273,11 @@ arrivals_write : (ps : List (List ℕ)) (f : Flow) → written_over f (map (λ p
 arrivals_write [] f = refl
 arrivals_write (p ∷ ps) f = arrivals_write ps (called f (Arrives p))
 
-hears : (l : ℕ) (side : Side) (f : Flow) (block : List ℕ) (told : List Event)
+hears : (l process : ℕ) (side : Side) (f : Flow) (block : List ℕ) (told : List Event)
     → told_on l told ≡ tells_over l f (map (λ p. Arrives p) (carried l (heard_by side) block))
-    → on_channel l side (Hears side block ∷ all_tell side told)
+    → on_channel l side (Hears side process block ∷ all_tell side told)
     ≡ parted (bearer_logs l f (map (λ p. Arrives p) (carried l (heard_by side) block)))
-hears l side f block told are =
+hears l process side f block told are =
     let ps = carried l (heard_by side) block in
     let cs = map (λ p. Arrives p) ps in
     ap (λ (b : Bool). (if b then coming ps else []) ++ on_channel l side (all_tell side told)) (same_side side)
@@ -318,17 +321,17 @@ module _ (l : ℕ) (side : Side) (f : Flow) (t : Turn) (u : End) (f_is : flow l 
   visits : (v : Visit) (told : List Event) → (v ≡ New → 1 ≤ t.grant)
       → told_on l told ≡ tells_over l f (takes_of v t u l)
       → on_channel l side (all_tell side told
-      ++ map (λ (octets : List ℕ). Builds side octets) (map (λ (b : Block). b.octets) (built_at v t u)))
+      ++ map (λ (octets : List ℕ). Builds side (t.tti % 8) octets) (map (λ (b : Block). b.octets) (built_at v t u)))
       ≡ parted (bearer_logs l f (takes_of v t u l))
   visits v told room are =
       let blocks = map (λ (b : Block). b.octets) (built_at v t u) in
       let cs = takes_of v t u l in
-      on_both l side (all_tell side told) (map (λ (octets : List ℕ). Builds side octets) blocks)
-      ∙ (ap (λ (es : List BearerEntry). es
-      ++ on_channel l side (map (λ (octets : List ℕ). Builds side octets) blocks))
+      let built = map (λ (octets : List ℕ). Builds side (t.tti % 8) octets) blocks in
+      on_both l side (all_tell side told) built
+      ∙ (ap (λ (es : List BearerEntry). es ++ on_channel l side built)
       (on_tells l side told ∙ ap telling are)
       ∙ (ap (λ (es : List BearerEntry). telling (tells_over l f cs) ++ es)
-      (on_builds l side blocks ∙ ap writing (takes_write v room))
+      (on_builds l (t.tti % 8) side blocks ∙ ap writing (takes_write v room))
       ∙ sym (parts_are l f cs
       ∙ ap (λ (ps : List (List ℕ)). coming ps ++ (telling (tells_over l f cs) ++ writing (written_over f cs)))
       (takes_come v))))
@@ -339,7 +342,7 @@ visited_flow l tti order e = refl
 
 -- ---- any call
 
-module _ (side : Side) (maximum : ℕ) (reports : Bool) (past : List Call) (l : ℕ) (given : AreGiven past)
+module _ (side : Side) (maximum : ℕ) (reports : Bool) (past : List Call) (l process : ℕ) (given : AreGiven past)
     (new : AreNew l past (fresh side maximum reports))
     (there : has l (reached side maximum reports past).bearers ≡ true) where
   abbrev r : End
@@ -356,7 +359,7 @@ module _ (side : Side) (maximum : ℕ) (reports : Bool) (past : List Call) (l : 
   plainly c g life plain = alone l side f (calls_of l r c) (told_of r c) (tells c g life) plain
 
   logs : (c : Call) → IsGiven c → GoesOnInLife l c → HasRoom r c
-      → on_channel l side (log_in side r c) ≡ parted (bearer_logs l f (calls_of l r c))
+      → on_channel l side (log_in side process r c) ≡ parted (bearer_logs l f (calls_of l r c))
   logs (SetVisits m) g life room = plainly (SetVisits m) g life tt
   logs (SetReports b) g life room = plainly (SetReports b) g life tt
   logs (Add config keys) g life room = plainly (Add config keys) g life tt
@@ -376,9 +379,9 @@ module _ (side : Side) (maximum : ℕ) (reports : Bool) (past : List Call) (l : 
   logs (Pass tti) g life room = plainly (Pass tti) g life tt
   logs (Receive block) g life room =
       let same : r.side ≡ side = reached_side side maximum reports past in
-      subst (λ (s : Side). on_channel l side (log_in side r (Receive block))
+      subst (λ (s : Side). on_channel l side (log_in side process r (Receive block))
       ≡ parted (bearer_logs l f (map (λ p. Arrives p) (carried l (heard_by s) block)))) (sym same)
-      (hears l side f block (told_of r (Receive block))
+      (hears l process side f block (told_of r (Receive block))
       (subst (λ (s : Side). told_on l (told_of r (Receive block))
       ≡ tells_over l f (map (λ p. Arrives p) (carried l (heard_by s) block))) same (tells (Receive block) g life)))
   logs (Expire lcid clock) g life room =
@@ -386,8 +389,8 @@ module _ (side : Side) (maximum : ℕ) (reports : Bool) (past : List Call) (l : 
   logs (Move keys) g life room = let other : keys ∷ [] ≡ [] = life.moves_none in absurd cc
 
 pub ends_log_on_channels : EndsLogOnChannels
-ends_log_on_channels side maximum reports past c l given new g life there room =
-    logs side maximum reports past l given new there c g life room
+ends_log_on_channels side maximum reports past c l process given new g life there room =
+    logs side maximum reports past l process given new there c g life room
 
 -- ---- steps of both ends
 
@@ -399,61 +402,100 @@ module _ (l : ℕ) (side s : Side) (apart : is_same s side ≡ false) where
       ap (λ (b : Bool). (if b && is_on l e then Tells e ∷ [] else []) ++ on_channel l side (all_tell s told)) apart
       ∙ no_tells told
 
-  no_builds : (blocks : List (List ℕ)) → on_channel l side (map (λ (octets : List ℕ). Builds s octets) blocks) ≡ []
-  no_builds [] = refl
-  no_builds (b ∷ bs) =
+  no_builds : (process : ℕ) (blocks : List (List ℕ))
+      → on_channel l side (map (λ (octets : List ℕ). Builds s process octets) blocks) ≡ []
+  no_builds process [] = refl
+  no_builds process (b ∷ bs) =
       ap (λ (x : Bool). (if x then writing (carried l (sent_by s) b) else [])
-      ++ on_channel l side (map (λ (octets : List ℕ). Builds s octets) bs)) apart
-      ∙ no_builds bs
+      ++ on_channel l side (map (λ (octets : List ℕ). Builds s process octets) bs)) apart
+      ∙ no_builds process bs
 
-  no_logs : (c : Call) (e : End) → on_channel l side (log_in s e c) ≡ []
-  no_logs (Visits t) e =
-      let built = map (λ (octets : List ℕ). Builds s octets) (built_in e (Visits t)) in
+  no_logs : (process : ℕ) (c : Call) (e : End) → on_channel l side (log_in s process e c) ≡ []
+  no_logs process (Visits t) e =
+      let built = map (λ (octets : List ℕ). Builds s (t.tti % 8) octets) (built_in e (Visits t)) in
       on_both l side (all_tell s (told_of e (Visits t))) built
       ∙ (ap (λ (es : List BearerEntry). es ++ on_channel l side built) (no_tells (told_of e (Visits t)))
-      ∙ no_builds (built_in e (Visits t)))
-  no_logs (Receive block) e =
+      ∙ no_builds (t.tti % 8) (built_in e (Visits t)))
+  no_logs process (Receive block) e =
       ap (λ (b : Bool). (if b then coming (carried l (heard_by s) block) else [])
       ++ on_channel l side (all_tell s (told_of e (Receive block)))) apart
       ∙ no_tells (told_of e (Receive block))
-  no_logs c e = no_tells (told_of e c)
+  no_logs process c e = no_tells (told_of e c)
 
-  none_over : (cs : List Call) (e : End) → on_channel l side (log_over s cs e) ≡ []
-  none_over [] e = refl
-  none_over (c ∷ cs) e =
-      on_both l side (log_in s e c) (log_over s cs (after e c))
-      ∙ (ap (λ (es : List BearerEntry). es ++ on_channel l side (log_over s cs (after e c))) (no_logs c e)
-      ∙ none_over cs (after e c))
+  none_by : (other : Station) (e : End) (y : Act) → on_channel l side (log_by s other e y) ≡ []
+  none_by other e (Calls c) = no_logs 0 c e
+  none_by other e (Lands k) = by (slice_get other.blocks k)
+    where
+      by : (o : Option Block) → on_channel l side (log_come s e o) ≡ []
+      by None = refl
+      by (Some b) = no_logs b.process (Receive b.octets) e
+  none_by other e (Goes k) = refl
 
-step_logs : (l : ℕ) (side : Side) (x : AirStep) (a : Air)
-    → on_channel l side (log_at a x) ≡ on_channel l side (log_over side (calls_at side a x) (end_at side a))
-step_logs l Nb x a =
-    let nb = log_over Nb (calls_at Nb a x) a.nb.end in
-    on_both l Nb nb (log_over Ue (calls_at Ue a x) a.ue.end)
-    ∙ (ap (λ (es : List BearerEntry). on_channel l Nb nb ++ es) (none_over l Nb Ue refl (calls_at Ue a x) a.ue.end)
-    ∙ append-nil (on_channel l Nb nb))
-step_logs l Ue x a =
-    let ue = log_over Ue (calls_at Ue a x) a.ue.end in
-    on_both l Ue (log_over Nb (calls_at Nb a x) a.nb.end) ue
-    ∙ ap (λ (es : List BearerEntry). es ++ on_channel l Ue ue) (none_over l Ue Nb refl (calls_at Nb a x) a.nb.end)
+-- on a channel no process matters
+any_process : (l p q : ℕ) (side s : Side) (e : End) (c : Call)
+    → on_channel l side (log_in s p e c) ≡ on_channel l side (log_in s q e c)
+any_process l p q side s e (Visits t) = refl
+any_process l p q side s e (Receive block) = refl
+any_process l p q side s e c = refl
 
-over_more : (side : Side) (cs ds : List Call) (e : End)
-    → log_over side (cs ++ ds) e ≡ log_over side cs e ++ log_over side ds (run_end cs e)
-over_more side [] ds e = refl
-over_more side (c ∷ cs) ds e =
-    ap (λ (es : List LogEntry). log_in side e c ++ es) (over_more side cs ds (after e c))
-    ∙ sym (append_assoc (log_in side e c) (log_over side cs (after e c)) (log_over side ds (run_end cs (after e c))))
+any_one : (l p q : ℕ) (side s : Side) (e : End) (c : Call)
+    → on_channel l side (log_in s p e c) ≡ on_channel l side (log_over s q (c ∷ []) e)
+any_one l p q side s e c =
+    any_process l p q side s e c ∙ ap (on_channel l side) (sym (append-nil (log_in s q e c)))
+
+logs_by : (l process : ℕ) (side : Side) (other : Station) (e : End) (y : Act)
+    → on_channel l side (log_by side other e y) ≡ on_channel l side (log_over side process (calls_by other y) e)
+logs_by l process side other e (Calls c) = any_one l 0 process side side e c
+logs_by l process side other e (Lands k) = by (slice_get other.blocks k)
+  where
+    by : (o : Option Block) → on_channel l side (log_come side e o)
+        ≡ on_channel l side (log_over side process (brought o) e)
+    by None = refl
+    by (Some b) = any_one l b.process process side side e (Receive b.octets)
+logs_by l process side other e (Goes k) = refl
+
+step_logs : (l process : ℕ) (side : Side) (x : AirStep) (a : Air)
+    → on_channel l side (log_at a x) ≡ on_channel l side (log_over side process (calls_at side a x) (end_at side a))
+step_logs l process Nb (InLife (AtNb y)) a = logs_by l process Nb a.ue a.nb.end y
+step_logs l process Nb (InLife (AtUe y)) a = none_by l Nb Ue refl a.nb a.ue.end y
+step_logs l process Ue (InLife (AtNb y)) a = none_by l Ue Nb refl a.ue a.nb.end y
+step_logs l process Ue (InLife (AtUe y)) a = logs_by l process Ue a.nb a.ue.end y
+step_logs l process Nb (InLife Passes) a = refl
+step_logs l process Ue (InLife Passes) a = refl
+step_logs l process Nb (Moves keys) a =
+    let nb = all_tell Nb (told_of a.nb.end (Move keys)) in
+    let told = told_of a.ue.end (Move keys) in
+    on_both l Nb nb (all_tell Ue told)
+    ∙ (ap (λ (es : List BearerEntry). on_channel l Nb nb ++ es) (no_tells l Nb Ue refl told)
+    ∙ sym (on_both l Nb nb []))
+step_logs l process Ue (Moves keys) a =
+    let ue = all_tell Ue (told_of a.ue.end (Move keys)) in
+    let told = told_of a.nb.end (Move keys) in
+    on_both l Ue (all_tell Nb told) ue
+    ∙ (ap (λ (es : List BearerEntry). es ++ on_channel l Ue ue) (no_tells l Ue Nb refl told)
+    ∙ ap (on_channel l Ue) (sym (append-nil ue)))
+
+over_more : (process : ℕ) (side : Side) (cs ds : List Call) (e : End)
+    → log_over side process (cs ++ ds) e ≡ log_over side process cs e ++ log_over side process ds (run_end cs e)
+over_more process side [] ds e = refl
+over_more process side (c ∷ cs) ds e =
+    let f = after e c in
+    let one = log_in side process e c in
+    ap (λ (es : List LogEntry). one ++ es) (over_more process side cs ds f)
+    ∙ sym (append_assoc one (log_over side process cs f) (log_over side process ds (run_end cs f)))
 
 pub sides_log_their_calls : SidesLogTheirCalls
-sides_log_their_calls l side [] a = refl
-sides_log_their_calls l side (x ∷ xs) a =
+sides_log_their_calls l process side [] a = refl
+sides_log_their_calls l process side (x ∷ xs) a =
     let cs = calls_at side a x in
     let ds = all_calls side xs (lives_on a x) in
     let e = end_at side a in
+    let one = log_over side process cs e in
     on_both l side (log_at a x) (log_of xs (lives_on a x))
-    ∙ (ap (λ (es : List BearerEntry). es ++ on_channel l side (log_of xs (lives_on a x))) (step_logs l side x a)
-    ∙ (ap (λ (es : List BearerEntry). on_channel l side (log_over side cs e) ++ es)
-    (sides_log_their_calls l side xs (lives_on a x)
-    ∙ ap (λ (y : End). on_channel l side (log_over side ds y)) (step_end side a x))
-    ∙ sym (ap (on_channel l side) (over_more side cs ds e)
-    ∙ on_both l side (log_over side cs e) (log_over side ds (run_end cs e)))))
+    ∙ (ap (λ (es : List BearerEntry). es ++ on_channel l side (log_of xs (lives_on a x)))
+    (step_logs l process side x a)
+    ∙ (ap (λ (es : List BearerEntry). on_channel l side one ++ es)
+    (sides_log_their_calls l process side xs (lives_on a x)
+    ∙ ap (λ (y : End). on_channel l side (log_over side process ds y)) (step_end side a x))
+    ∙ sym (ap (on_channel l side) (over_more process side cs ds e)
+    ∙ on_both l side one (log_over side process ds (run_end cs e)))))

@@ -34,9 +34,9 @@ use Rattle.law_run.specs.TwoEnds.Arrival.{renewals_in, told_by_step}
 use Rattle.promises.specs.Arrival.{entries_in, entries_ended}
 use Rattle.law_words.specs.Arrivals.{AccountEntry}
 use Rattle.law_run.specs.TwoEnds.Going.{TellAlone, sets, handed_in as handed_by, IsStepSince}
-use Rattle.law_run.specs.TwoEnds.Logs.{LogEntry, logged, LogAlone}
+use Rattle.law_run.specs.TwoEnds.Logs.{LogEntry, no_flight, logged, LogAlone}
 use Rattle.law_run.proofs.TwoEnds.Going.{logged_more, logged_both}
-use Rattle.law_run.proofs.TwoEnds.Going.{last_in, tells_more}
+use Rattle.law_run.proofs.TwoEnds.Going.{last_in, flight_in, tells_more}
 use Rattle.law_run.specs.TwoEnds.Staying.{is_handover_step}
 use Rattle.law_run.proofs.TwoEnds.Showing.{in_then}
 use Rattle.mac_pdu.specs.declared.item.Direction.{Direction}
@@ -160,11 +160,13 @@ unflown_end bits l from said done =
 log_alone_both : (f g : List Record) → LogAlone f → LogAlone g → LogAlone (f ++ g)
 log_alone_both f g p q sent =
     logged_more sent f g
-    ∙ (ap (λ (hs : List LogEntry). hs ++ logged (last_in f sent) g) (p sent)
-    ∙ (ap (λ (hs : List LogEntry). logged [] f ++ hs) (q (last_in f sent)) ∙ sym (logged_both f g q)))
+    ∙ (ap (λ (hs : List LogEntry). hs ++ logged (flight_in f sent) g) (p sent)
+    ∙ (ap (λ (hs : List LogEntry). logged no_flight f ++ hs) (q (flight_in f sent)) ∙ sym (logged_both f g q)))
 
-unlogged_end : (said : List Record) (done : ℕ) → logged [] (said ++ records.Drained done ∷ []) ≡ logged [] said
-unlogged_end said done = logged_more [] said (records.Drained done ∷ []) ∙ append-nil (logged [] said)
+unlogged_end : (said : List Record) (done : ℕ)
+    → logged no_flight (said ++ records.Drained done ∷ []) ≡ logged no_flight said
+unlogged_end said done =
+    logged_more no_flight said (records.Drained done ∷ []) ∙ append-nil (logged no_flight said)
 
 unsaid_end : (d : Direction) (l : ℕ) (place : Cursor) (said : List Record) (done : ℕ)
     → told_in d l place (said ++ records.Drained done ∷ []) ≡ told_in d l place said
@@ -396,7 +398,7 @@ module _ (l : ℕ) (Live : List Record → Sdus → Happened → Bool → Link �
     pub lived : Live (told ++ more) (λ side n. handed side n ++ (handed_in side n p m.out ++ looped_at side n m.out))
         (λ bits from. flown bits from ++ (ends ++ entries_in bits l from [] m.out)) set m
     pub told_are : (side : Side) → events_of side m.out ≡ events_of side more
-    pub logged_are : logged [] m.out ≡ logged [] more
+    pub logged_are : logged no_flight m.out ≡ logged no_flight more
     pub haps_are : (d : Direction) (place : Cursor) → told_in d l place m.out ≡ told_in d l place more
 
   pub step_plays : (told : List Record) (handed : Sdus) (flown : Happened) (set : Bool) (s : Step) (k : Link)
@@ -446,7 +448,7 @@ module _ (l : ℕ) (Live : List Record → Sdus → Happened → Bool → Link �
         ∙ ap (λ (y : List Record). flown bits from ++ entries_in bits l from [] y) (sym nothing))
         (sym (or_false set)) h;
     told_are = λ side. ap (events_of side) nothing;
-    logged_are = ap (logged []) nothing;
+    logged_are = ap (logged no_flight) nothing;
     haps_are = λ d place. ap (told_in d l place) nothing;
   }
 
@@ -479,7 +481,7 @@ module _ (l : ℕ) (Live : List Record → Sdus → Happened → Bool → Link �
             (sym (ap (entries_in bits l from []) w.journal_is ∙ unflown_end bits l from w.said w.done)))
             (sym (or_false set)) (through.unseen _ _ _ set d.link d.journal w.lived);
         told_are = λ side. ap (events_of side) w.journal_is ∙ untold_end side w.said w.done;
-        logged_are = ap (logged []) w.journal_is ∙ unlogged_end w.said w.done;
+        logged_are = ap (logged no_flight) w.journal_is ∙ unlogged_end w.said w.done;
         haps_are = λ d place. ap (told_in d l place) w.journal_is ∙ unsaid_end d l place w.said w.done;
       }
 

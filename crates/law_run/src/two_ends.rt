@@ -17,11 +17,12 @@ ghost use Rattle.law_run.specs.TwoEnds.Links.{LinksAreFlows, LinksAreOrdered};
 /// comes only as the other end has just sent it, a new one is built only when the blocks under way
 /// are those that processes hold, no end builds two in a TTI, none is under way for more than 216
 /// TTIs, and in a handover both ends move under the same keys and nothing is under way behind it.
-/// What the records tell of each end is what it tells in its calls, and it is submitted what is
-/// handed in and not refused, and at the terminal what the test loop returns, as records tell. And
-/// they tell what goes by air on a channel in each direction, in this order: the PDUs that the
-/// sending end's PDCP gives RLC, the PDUs of RLC in its new blocks, and those in the blocks that
-/// come; a handover ends the life. Where they show the PDUs of the channel as those of
+/// What the records tell of each end is what it tells in its calls, and in one order what both
+/// tell, the blocks that they build and those that come, each with its HARQ process. An end is
+/// submitted what is handed in and not refused, and at the terminal what the test loop returns, as
+/// records tell. And they tell what goes by air on a channel in each direction, in this order: the
+/// PDUs that the sending end's PDCP gives RLC, the PDUs of RLC in its new blocks, and those in the
+/// blocks that come; a handover ends the life. Where they show the PDUs of the channel as those of
 /// unacknowledged RLC they tell, as `um_losses` reads them, just what these steps are to the flow
 /// from each side: the PDUs that are written into new blocks, those that come, and the expiries of
 /// reordering timers.
@@ -95,9 +96,10 @@ pub fn calls_go_along()
 {}
 
 /// And what the end logs of the channel in the call is what its bearer logs: first the PDUs of the
-/// channel in a block that comes, then what is told on the channel, and then the PDUs of the
-/// channel in a new block. Of what both ends log in one order in any steps, a side logs on the
-/// channel what it logs in its own calls.
+/// channel in a block that comes, whichever HARQ process it is of, then what is told on the
+/// channel, and then the PDUs of the channel in a new block. Of what both ends log in one order in
+/// any steps, each block with its HARQ process, a side logs on the channel what it logs in its own
+/// calls.
 pub fn ends_log_on_channels()
     ensures calls { EndsLogOnChannels }
     ensures steps { SidesLogTheirCalls }

@@ -53,3 +53,5 @@ pub mod AirSending
 pub mod ReorderGathering
 pub mod EqualBlocks
 pub mod JoiningFails
+pub mod SentProcesses
+pub mod LogEntries

@@ -39,6 +39,7 @@ use Rattle.law_words.specs.Arrivals.{AccountEntry}
 use Rattle.law_deliver.specs.AmChannel.Lives.{end_at}
 use Rattle.law_run.specs.TwoEnds.Arrival.{renewals_in}
 use Rattle.promises.specs.Arrival.{entries_in}
+use Rattle.law_run.specs.TwoEnds.Logs.{Flight, no_flight}
 use Rattle.law_run.specs.TwoEnds.Staying.{is_handover_step, Stays, MovesOn}
 use Rattle.law_run.specs.TwoEnds.Going.{handed_in, sets, GoesOn, IsCallSince, IsStepSince}
 use Rattle.promises.specs.Flows.{looped_at}
@@ -87,14 +88,14 @@ marks l s = record { sets = sets l s; moves = is_handover_step s }
 
 same_behind : (c : Behind) (xs ys : List AccountEntry) → ended c ++ xs ≡ ended c ++ ys → xs ≡ ys
 same_behind Any xs ys e = e
-same_behind (Block' octets process) xs ys e = e
+same_behind (Block' side octets process) xs ys e = e
 same_behind Renewed xs ys e = cc
 same_behind Unread xs ys e = e
 
 -- behind what a step ends
 goes_behind : (l t : ℕ) (c : Behind) (s : LinkStep) (k : Link) (a : Air) → ended c ≡ renewals_in s
     → first_whats c ≡ anew s
-    → ((sent : List ℕ) → Fits c sent) → ((p : Cursor) → IsAt c p)
+    → ((sent : Flight) → Fits c sent) → ((p : Cursor) → IsAt c p)
     → Reaches l (marks l s) c Any (λ side n. handed_in side n s k) (Stands Nb (Waits t)) (Stands Ue (Waits t)) k
     (step s k) a → (step s k).ttis ≡ t → Stays l s k a
 goes_behind l t c s k a ends firsts fits at r same = record {
@@ -102,16 +103,17 @@ goes_behind l t c s k a ends firsts fits at r same = record {
     more = r.more;
     out_is = r.out_is;
     alone =
-        λ bits from sent. same_behind c _ _ (sym (r.goes.reads bits from sent (fits sent))
-        ∙ r.goes.reads bits from [] (fits []));
-    log_alone = λ sent. sym (r.goes.logs sent (fits sent)) ∙ r.goes.logs [] (fits []);
+        λ bits from sent. same_behind c _ _ (sym (r.goes.reads bits from (record no_flight { octets = sent })
+        (fits (record no_flight { octets = sent })))
+        ∙ r.goes.reads bits from no_flight (fits no_flight));
+    log_alone = λ sent. sym (r.goes.logs sent (fits sent)) ∙ r.goes.logs no_flight (fits no_flight);
     by = record {
       steps = r.goes.steps;
       living = r.goes.living;
       told_is = r.goes.told_is;
-      logged_is = r.goes.logs [] (fits []);
+      logged_is = r.goes.logs no_flight (fits no_flight);
       submitted_is = r.goes.submitted_is;
-      happened_is = λ bits from. r.goes.reads bits from [] (fits [])
+      happened_is = λ bits from. r.goes.reads bits from no_flight (fits no_flight)
           ∙ ap (λ (hs : List AccountEntry). hs ++ entries_in bits l from [] r.more) ends;
       sets_none = r.goes.sets_none;
       on = subst (IsOn (step s k)) (sym r.goes.air_is) (both_on t (step s k) r.air same r.both);
@@ -427,9 +429,9 @@ handovers_move l keys k a h =
         steps = r.goes.steps;
         living = r.goes.living;
         told_is = r.goes.told_is;
-        logged_is = r.goes.logs [] tt;
+        logged_is = r.goes.logs no_flight tt;
         submitted_is = r.goes.submitted_is;
-        happened_is = λ bits from. r.goes.reads bits from [] tt;
+        happened_is = λ bits from. r.goes.reads bits from no_flight tt;
         sets_none = r.goes.sets_none;
         on =
             subst (IsOn (loops n)) (sym r.goes.air_is)

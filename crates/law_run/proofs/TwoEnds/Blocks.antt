@@ -36,11 +36,11 @@ use Rattle.um_losses.specs.Told.{told_in, place_behind}
 use Rattle.law_deliver.specs.UmGaps.Whats.{expiries}
 use Rattle.promises.specs.Flows.{loops_in, looped_at}
 use Rattle.law_run.specs.TwoEnds.Shown.{IsShown}
-use Rattle.law_run.specs.TwoEnds.Logs.{LogEntry, Hears, all_tell, log_in, logged}
+use Rattle.law_run.specs.TwoEnds.Logs.{LogEntry, Hears, all_tell, log_in, Flight, process_of, logged}
 use Rattle.law_run.specs.TwoEnds.On.{until, IsStation}
 use Rattle.promises.specs.Arrival.{entries_in}
 use Rattle.law_run.proofs.TwoEnds.Showing.{Shows, got_own, got_hidden}
-use Rattle.law_run.proofs.TwoEnds.Going.{Marks, Behind, Any, Block', Fits, IsAt, last_in, no_whats}
+use Rattle.law_run.proofs.TwoEnds.Going.{Marks, Behind, Any, Block', Fits, IsAt, flight_in, no_whats}
 use Rattle.law_run.proofs.TwoEnds.Steps.{call_whats}
 use Rattle.law_run.proofs.TwoEnds.Going.{Goes, station, with_station, GoesBehind, TellNoAir}
 use Rattle.law_run.proofs.TwoEnds.Steps.{come_whats, Brings}
@@ -98,10 +98,12 @@ other_air bits l Ue sent heard es quiet =
     ∙ append-nil (entries_come (carried l directions.Down sent))
 
 -- in one order the block, and what is told of it
-heard_logged : (side : Side) (sent : List ℕ) (heard : Option Bool) (es : List Event) → TellNoLoop es
-    → logged sent (heard_as side heard es) ≡ Hears side sent ∷ all_tell side es
-heard_logged Nb sent heard es q = ap (λ (hs : List LogEntry). Hears Nb sent ∷ hs) (own_logged Nb es q sent)
-heard_logged Ue sent heard es q = ap (λ (hs : List LogEntry). Hears Ue sent ∷ hs) (own_logged Ue es q sent)
+heard_logged : (side : Side) (sent : Flight) (heard : Option Bool) (es : List Event) → TellNoLoop es
+    → logged sent (heard_as side heard es) ≡ Hears side (process_of (other side) sent) sent.octets ∷ all_tell side es
+heard_logged Nb sent heard es q =
+    ap (λ (hs : List LogEntry). Hears Nb sent.ue sent.octets ∷ hs) (own_logged Nb es q sent)
+heard_logged Ue sent heard es q =
+    ap (λ (hs : List LogEntry). Hears Ue sent.nb sent.octets ∷ hs) (own_logged Ue es q sent)
 
 -- a block that was sent last is got, and comes to a side
 heard_stage : (l : ℕ) (set : Marks) (octets : List ℕ) (v : ℕ) (heard : Option Bool) (side : Side) (R S : Station
@@ -111,24 +113,27 @@ heard_stage : (l : ℕ) (set : Marks) (octets : List ℕ) (v : ℕ) (heard : Opt
     → Both R S m (with_station side (record (station side a) {
       end = after_call (station side a).end (Receive octets);
     }) a)
-    → Reaches l set (Block' octets v) Any none R S k m a
+    → Reaches l set (Block' (other side) octets v) Any none R S k m a
 heard_stage l set octets v heard side R S k m d a f end_is come out kinds both =
     let e = (station side a).end in
     let es = (received d octets).events in
     let told = heard_as side heard es in
     let b : Air = with_station side (record (station side a) { end = after_call e (Receive octets) }) a in
+    let known = Block' (other side) octets v in
     let es_are : es ≡ told_of e (Receive f.block.octets) =
     ap (λ (x : End). (received x octets).events) (sym end_is)
     ∙ ap (λ (o : List ℕ). (received e o).events) (sym f.octets_are) in
     let quiet : TellNoAir (map (records.Of side) es) = quiet_events side es ((writes_nothing d).receiving octets) in
-    let brings : Brings l (Block' octets v) side told f.block.octets e = record {
-      own = λ bits sent fits. own_air bits l side sent heard es quiet;
-      far = λ bits sent fits. other_air bits l side sent heard es quiet
-          ∙ ap (λ (o : List ℕ). entries_come (carried l (heard_by side) o)) (fits ∙ sym f.octets_are)
+    let brings : Brings l known side told f.block e = record {
+      own = λ bits sent fits. own_air bits l side sent.octets heard es quiet;
+      far = λ bits sent fits. other_air bits l side sent.octets heard es quiet
+          ∙ ap (λ (o : List ℕ). entries_come (carried l (heard_by side) o))
+          (fits.1 ∙ sym f.octets_are)
           ∙ sym (heard_from l side e f.block.octets come);
       log = λ sent fits. heard_logged side sent heard es (tells_no_loop d (Receive octets))
-          ∙ (ap (λ (o : List ℕ). Hears side o ∷ all_tell side es) (fits ∙ sym f.octets_are)
-          ∙ ap (λ (xs : List Event). Hears side f.block.octets ∷ all_tell side xs) es_are);
+          ∙ (ap (λ (n : ℕ). Hears side n sent.octets ∷ all_tell side es) (fits.0 ∙ sym f.process_is)
+          ∙ (ap (λ (o : List ℕ). Hears side f.block.process o ∷ all_tell side es) (fits.1 ∙ sym f.octets_are)
+          ∙ ap (λ (xs : List Event). Hears side f.block.process f.block.octets ∷ all_tell side xs) es_are));
     } in
     record {
       air = b;
@@ -138,9 +143,9 @@ heard_stage l set octets v heard side R S k m d a f end_is come out kinds both =
           unlooped_goes l set told a b
           (λ n. unlooped_by n (records.Air (heard_by side) arriveds.Got heard) (map (records.Of side) es) refl
           (events_unlooped n side es))
-          (subst (λ (o : List ℕ). GoesBehind l set (Block' octets v) told none (come_whats side l e f.block) a
+          (subst (λ (o : List ℕ). GoesBehind l set known told none (come_whats side l e f.block) a
           (with_station side (record (station side a) { end = after_call e (Receive o) }) a)) f.octets_are
-          (goes_come l set (Block' octets v) side told f.place f.block a refl brings f.there
+          (goes_come l set known side told f.place f.block a refl brings f.there
           (own_told side es (tells_no_loop d (Receive octets)) ∙ es_are) (other_told side es)));
       ws = come_whats side l e f.block;
       left = λ sent fits. tt;
@@ -152,7 +157,7 @@ heard_stage l set octets v heard side R S k m d a f end_is come out kinds both =
 
 pub hears_ue : (l : ℕ) (set : Marks) (octets : List ℕ) (v : ℕ) (heard : Option Bool) (k : Link) (P : Station
     → Type 0) (u : Moment) → ((s : Station) → P s → Flown octets v s)
-    → StageBehind l set (Block' octets v) Any P (Stands Ue u) P (Stands Ue u) k
+    → StageBehind l set (Block' Nb octets v) Any P (Stands Ue u) P (Stands Ue u) k
     (hears Ue octets (says (records.Air directions.Down arriveds.Got heard) k))
 hears_ue l set octets v heard k P u flown a h =
     let one = records.Air directions.Down arriveds.Got heard in
@@ -169,7 +174,7 @@ hears_ue l set octets v heard k P u flown a h =
 
 pub hears_nb : (l : ℕ) (set : Marks) (octets : List ℕ) (v : ℕ) (heard : Option Bool) (k : Link) (n : Moment)
     (Q : Station → Type 0) → ((s : Station) → Q s → Flown octets v s)
-    → StageBehind l set (Block' octets v) Any (Stands Nb n) Q (Stands Nb n) Q k
+    → StageBehind l set (Block' Ue octets v) Any (Stands Nb n) Q (Stands Nb n) Q k
     (hears Nb octets (says (records.Air directions.Up arriveds.Got heard) k))
 hears_nb l set octets v heard k n Q flown a h =
     let one = records.Air directions.Up arriveds.Got heard in
@@ -220,7 +225,8 @@ pub record Visited (l : ℕ) (side : Side) (t : Turn) (told : List Record) (k m 
   pub says : (bits l : ℕ) (sent : List ℕ) → HasCome side (end_of side k)
       → said_in bits l (end_of side k) (Visits t) ≡ entries_in bits l side sent told
   pub hears : (bits l : ℕ) (sent : List ℕ) → [] ≡ entries_in bits l (other side) sent told
-  pub logs : (sent : List ℕ) → HasCome side (end_of side k) → log_in side (end_of side k) (Visits t) ≡ logged sent told
+  pub logs : (sent : Flight) → HasCome side (end_of side k)
+      → log_in side 0 (end_of side k) (Visits t) ≡ logged sent told
   pub kinds_are : m.kinds ≡ k.kinds
   pub shown : HasCome side (end_of side k) → Shows l k.kinds told (call_whats side l (end_of side k) (Visits t))
 
@@ -238,7 +244,7 @@ visit_by l set side t told k m b calling end_is come x =
       other_submitted = λ n. refl;
       says = λ bits j sent. ap (λ (e : End). said_in bits j e (Visits t)) end_is ∙ x.says bits j sent come;
       hears = λ bits j sent. x.hears bits j sent;
-      logs = λ sent. ap (λ (e : End). log_in side e (Visits t)) end_is ∙ x.logs sent come;
+      logs = λ sent. ap (λ (e : End). log_in side 0 e (Visits t)) end_is ∙ x.logs sent come;
     })
 
 visit_goes : (l : ℕ) (set : Marks) (side : Side) (t : Turn) (told : List Record) (k m : Link) (a : Air)
@@ -263,7 +269,7 @@ visit_goes l set Ue t told k m a h end_is x =
     (subst (HasCome Ue) end_is h.is.come) x))
 
 visit_stage : (l : ℕ) (set : Marks) (side : Side) (d : Behind) (t : Turn) (told : List Record) (k m : Link)
-    (R S : Station → Type 0) (a : Air) → ((sent : List ℕ) → Fits d (last_in told sent))
+    (R S : Station → Type 0) (a : Air) → ((sent : Flight) → Fits d (flight_in told sent))
     → ((p : Cursor) → IsAt d (place_behind p told)) → Visited l side t told k m
     → Stands side (Waits t.tti) (station side a) → (station side a).end ≡ end_of side k
     → Both R S m (with_station side (visiting t (station side a)) a) → Reaches l set Any d none R S k m a
@@ -282,7 +288,7 @@ visit_stage l set side d t told k m R S a left stands x h end_is both = record {
 }
 
 pub visit_nb : (l : ℕ) (set : Marks) (d : Behind) (t : Turn) (told : List Record) (k m : Link) (Q : Station → Type 0)
-    → ((sent : List ℕ) → Fits d (last_in told sent)) → ((p : Cursor) → IsAt d (place_behind p told))
+    → ((sent : Flight) → Fits d (flight_in told sent)) → ((p : Cursor) → IsAt d (place_behind p told))
     → Visited l Nb t told k m
     → StageBehind l set Any d (Stands Nb (Waits t.tti)) Q (Visiting Nb t k.nb) Q k m
 visit_nb l set d t told k m Q left stands x a h =
@@ -294,7 +300,7 @@ visit_nb l set d t told k m Q left stands x a h =
     })
 
 pub visit_ue : (l : ℕ) (set : Marks) (d : Behind) (t : Turn) (told : List Record) (k m : Link) (P : Station → Type 0)
-    → ((sent : List ℕ) → Fits d (last_in told sent)) → ((p : Cursor) → IsAt d (place_behind p told))
+    → ((sent : Flight) → Fits d (flight_in told sent)) → ((p : Cursor) → IsAt d (place_behind p told))
     → Visited l Ue t told k m
     → StageBehind l set Any d P (Stands Ue (Waits t.tti)) P (Visiting Ue t k.ue) k m
 visit_ue l set d t told k m P left stands x a h =

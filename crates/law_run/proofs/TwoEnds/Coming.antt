@@ -25,7 +25,7 @@ use Rattle.promises.specs.Records.{events_of}
 use Rattle.law_run.specs.TwoEnds.Lives.{IsAtRest}
 use Rattle.law_run.specs.TwoEnds.On.{until, IsStation, IsOn}
 use Rattle.law_run.proofs.TwoEnds.Advancing.{steps_go}
-use Rattle.law_run.specs.TwoEnds.Logs.{LogEntry, log_of, logged}
+use Rattle.law_run.specs.TwoEnds.Logs.{LogEntry, log_of, no_flight, logged}
 use Rattle.law_run.proofs.TwoEnds.Going.{moving, Unread, Whats, GoesBehind, behind_then, happens_then, logs_then}
 use Rattle.law_run.proofs.TwoEnds.Going.{logged_both}
 use Rattle.law_run.proofs.TwoEnds.Lives.{calls_rest}
@@ -73,7 +73,7 @@ come_as l a f g x y s t b c k told same air on h = record {
   steps = h.steps;
   living = h.living;
   told_is = λ side. ap (events_of side) (sym told) ∙ h.told_is side;
-  logged_is = h.logged_is ∙ ap (logged []) told;
+  logged_is = h.logged_is ∙ ap (logged no_flight) told;
   submitted_is = λ side n. h.submitted_is side n ∙ same side n;
   happened_is = λ bits from. h.happened_is bits from ∙ air bits from;
   sets_none = λ off. h.sets_none (on ∙ off);
@@ -138,7 +138,7 @@ by_goes l told submitted said set whole m a x off =
 abbrev goes_by : (l : ℕ) (told : List Record) (submitted : Side → ℕ → List (List ℕ)) (said : ℕ → Side
     → List AccountEntry) (set : Bool) (m : Link) {ws : Whats} (a b : Air) (x : Goes l set told submitted ws a b)
     → ((bits : ℕ) (from : Side) → happened bits l from x.steps a ≡ said bits from)
-    → log_of x.steps a ≡ logged [] told → IsOn m b → GoesByAir l told submitted said set m a
+    → log_of x.steps a ≡ logged no_flight told → IsOn m b → GoesByAir l told submitted said set m a
 goes_by l told submitted said set m {ws} a b x happened logs on =
     record {
       steps = x.steps;
@@ -175,11 +175,11 @@ steps_come l told submitted said set s k a g h =
     (λ sent fits. absurd fits) before behind
     ∙ (ap (λ (hs : List AccountEntry). hs ++ happened bits l from y.steps b) (h.happened_is bits from)
     ∙ ap (λ (hs : List AccountEntry). said bits from ++ hs) (y.happened_is bits from)) in
-    let logs : log_of whole.steps a ≡ logged [] (told ++ x.more) =
+    let logs : log_of whole.steps a ≡ logged no_flight (told ++ x.more) =
     logs_then l (moving sets_any) Unread Unread told x.more submitted more a b c refl (λ sent fits. absurd fits) before
     behind
     ∙ (ap (λ (hs : List LogEntry). hs ++ log_of y.steps b) h.logged_is
-    ∙ (ap (λ (hs : List LogEntry). logged [] told ++ hs) y.logged_is
+    ∙ (ap (λ (hs : List LogEntry). logged no_flight told ++ hs) y.logged_is
     ∙ sym (logged_both told x.more x.log_alone))) in
     record {
       more = x.more;

@@ -23,7 +23,8 @@ use Rattle.um_losses.specs.declared.cursor.Cursor.{Cursor}
 use Rattle.um_losses.specs.declared.flow.Happening.{Happening}
 use Rattle.um_losses.specs.declared.flow.Happening.TheVariants.{LifeRestarted}
 use Rattle.law_deliver.specs.UmGaps.Whats.{whats_in, whats}
-use Rattle.law_run.specs.TwoEnds.Logs.{LogEntry, log_at, log_of, logged_at, logged, LogAlone}
+use Rattle.law_run.specs.TwoEnds.Logs.{LogEntry, log_at, log_of, Flight, process_of, process_last, flight_behind}
+use Rattle.law_run.specs.TwoEnds.Logs.{no_flight, logged_at, logged, LogAlone}
 use Rattle.law_run.specs.TwoEnds.Staying.{AreInLife}
 
 -- ---- the end of a side
@@ -118,35 +119,35 @@ in_life_more [] ys h k = k
 in_life_more (InLife s ∷ xs) ys h k = in_life_more xs ys h k
 in_life_more (Moves keys ∷ xs) ys h k = absurd h
 
--- what is known as records are read: nothing, of the block that was sent last its octets and its process, at which the
--- records stand, or nothing and that a life ended before; or they aren't read
+-- what is known as records are read: nothing, of the block that was sent last its side, its octets and its process, at
+-- which the records stand, or nothing and that a life ended before; or they aren't read
 pub data Behind : Type 0 where
   Any : Behind
-  Block' : List ℕ → ℕ → Behind
+  Block' : Side → List ℕ → ℕ → Behind
   Renewed : Behind
   Unread : Behind
 
-abbrev pub Fits : Behind → List ℕ → Type 0
+abbrev pub Fits : Behind → Flight → Type 0
 Fits Any sent = Unit {0}
-Fits (Block' octets process) sent = sent ≡ octets
+Fits (Block' side octets process) sent = (process_of side sent ≡ process) × (sent.octets ≡ octets)
 Fits Renewed sent = Unit {0}
 Fits Unread sent = ⊥
 
 abbrev pub IsAt : Behind → Cursor → Type 0
 IsAt Any p = Unit {0}
-IsAt (Block' octets process) p = p.process ≡ process
+IsAt (Block' side octets process) p = p.process ≡ process
 IsAt Renewed p = Unit {0}
 IsAt Unread p = ⊥
 
 abbrev pub ended : Behind → List AccountEntry
 ended Any = []
-ended (Block' octets process) = []
+ended (Block' side octets process) = []
 ended Renewed = Renews ∷ []
 ended Unread = []
 
 abbrev pub first_whats : Behind → List Happening
 first_whats Any = []
-first_whats (Block' octets process) = []
+first_whats (Block' side octets process) = []
 first_whats Renewed = LifeRestarted ∷ []
 first_whats Unread = []
 
@@ -155,9 +156,21 @@ abbrev pub last_in : List Record → List ℕ → List ℕ
 last_in [] sent = sent
 last_in (one ∷ told) sent = last_in told (sent_last one sent)
 
+-- with the process of each side
+abbrev pub process_in : Side → List Record → ℕ → ℕ
+process_in side [] before = before
+process_in side (one ∷ told) before = process_in side told (process_last side one before)
+
+abbrev pub flight_in : List Record → Flight → Flight
+flight_in told sent = record {
+  nb = process_in Nb told sent.nb;
+  ue = process_in Ue told sent.ue;
+  octets = last_in told sent.octets;
+}
+
 abbrev pub Reads : ℕ → Behind → List Record → List AirStep → Air → Type 0
-Reads l c told steps a = (bits : ℕ) (from : Side) (sent : List ℕ) → Fits c sent
-    → happened bits l from steps a ≡ ended c ++ entries_in bits l from sent told
+Reads l c told steps a = (bits : ℕ) (from : Side) (sent : Flight) → Fits c sent
+    → happened bits l from steps a ≡ ended c ++ entries_in bits l from sent.octets told
 
 -- what steps are to an unacknowledged flow from each side, by the bits of its numbers
 abbrev pub Whats : Type 0
@@ -176,7 +189,7 @@ pub record GoesBehind (l : ℕ) (set : Marks) (c : Behind) (told : List Record) 
   pub sets_none : set.sets ≡ false → (side : Side) → Unset l steps a side
   pub stays : set.moves ≡ false → AreInLife steps
   pub reads : Reads l c told steps a
-  pub logs : (sent : List ℕ) → Fits c sent → log_of steps a ≡ logged sent told
+  pub logs : (sent : Flight) → Fits c sent → log_of steps a ≡ logged sent told
   pub whats_are : (bits : ℕ) (from : Side) → whats from l bits steps a ≡ ws bits from
   pub air_is : lives steps a ≡ b
 
@@ -218,17 +231,21 @@ log_more (x ∷ xs) ys a =
     ap (λ (hs : List LogEntry). log_at a x ++ hs) (log_more xs ys (lives_on a x))
     ∙ sym (append_assoc (log_at a x) (log_of xs (lives_on a x)) (log_of ys (lives xs (lives_on a x))))
 
-pub logged_more : (sent : List ℕ) (f g : List Record)
-    → logged sent (f ++ g) ≡ logged sent f ++ logged (last_in f sent) g
+pub flight_more : (f g : List Record) (sent : Flight) → flight_in g (flight_in f sent) ≡ flight_in (f ++ g) sent
+flight_more [] g sent = refl
+flight_more (one ∷ f) g sent = flight_more f g (flight_behind one sent)
+
+pub logged_more : (sent : Flight) (f g : List Record)
+    → logged sent (f ++ g) ≡ logged sent f ++ logged (flight_in f sent) g
 logged_more sent [] g = refl
 logged_more sent (one ∷ f) g =
-    ap (λ (hs : List LogEntry). logged_at sent one ++ hs) (logged_more (sent_last one sent) f g)
-    ∙ sym (append_assoc (logged_at sent one) (logged (sent_last one sent) f)
-    (logged (last_in f (sent_last one sent)) g))
+    ap (λ (hs : List LogEntry). logged_at sent one ++ hs) (logged_more (flight_behind one sent) f g)
+    ∙ sym (append_assoc (logged_at sent one) (logged (flight_behind one sent) f)
+    (logged (flight_in f (flight_behind one sent)) g))
 
 pub behind_then : (l : ℕ) (set : Marks) (c d : Behind) (f g : List Record) (x y : Side → ℕ
     → List (List ℕ)) {v w : Whats} (a b e : Air) → ended d ≡ []
-    → ((sent : List ℕ) → Fits c sent → Fits d (last_in f sent))
+    → ((sent : Flight) → Fits c sent → Fits d (flight_in f sent))
     → GoesBehind l set c f x v a b → GoesBehind l set d g y w b e
     → GoesBehind l set c (f ++ g) (λ side n. x side n ++ y side n) (λ bits from. v bits from ++ w bits from) a e
 behind_then l set c d f g x y {v} {w} a b e none left p q =
@@ -257,20 +274,20 @@ behind_then l set c d f g x y {v} {w} a b e none left p q =
           (unset_more l (all_calls side ss a) (all_calls side ts z) (p.sets_none off side) second);
       stays = λ off. in_life_more ss ts (p.stays off) (q.stays off);
       reads = λ bits from sent fits.
-          let one = entries_in bits l from sent f in
-          let two = entries_in bits l from (last_in f sent) g in
+          let one = entries_in bits l from sent.octets f in
+          let two = entries_in bits l from (last_in f sent.octets) g in
           let second : happened bits l from ts z ≡ two =
           ap (λ (w : Air). happened bits l from ts w) p.air_is
-          ∙ (q.reads bits from (last_in f sent) (left sent fits) ∙ ap (λ (hs : List AccountEntry). hs ++ two) none)
+          ∙ (q.reads bits from (flight_in f sent) (left sent fits) ∙ ap (λ (hs : List AccountEntry). hs ++ two) none)
           in
           happened_more bits l from ss ts a
           ∙ (ap (λ (hs : List AccountEntry). hs ++ happened bits l from ts z) (p.reads bits from sent fits)
           ∙ (ap (λ (hs : List AccountEntry). (ended c ++ one) ++ hs) second
           ∙ (append_assoc (ended c) one two
-          ∙ ap (λ (hs : List AccountEntry). ended c ++ hs) (sym (tells_more bits l from sent f g)))));
+          ∙ ap (λ (hs : List AccountEntry). ended c ++ hs) (sym (tells_more bits l from sent.octets f g)))));
       logs = λ sent fits.
-          let second : log_of ts z ≡ logged (last_in f sent) g =
-          ap (λ (w : Air). log_of ts w) p.air_is ∙ q.logs (last_in f sent) (left sent fits) in
+          let second : log_of ts z ≡ logged (flight_in f sent) g =
+          ap (λ (w : Air). log_of ts w) p.air_is ∙ q.logs (flight_in f sent) (left sent fits) in
           log_more ss ts a
           ∙ (ap (λ (hs : List LogEntry). hs ++ log_of ts z) (p.logs sent fits)
           ∙ (ap (λ (hs : List LogEntry). logged sent f ++ hs) second ∙ sym (logged_more sent f g)));
@@ -284,8 +301,8 @@ behind_then l set c d f g x y {v} {w} a b e none left p q =
 
 -- what happens in the ones and then in the others
 pub happens_then : (bits : ℕ) (from : Side) (l : ℕ) (set : Marks) (c d : Behind) (f g : List Record) (x y : Side → ℕ
-    → List (List ℕ)) {v w : Whats} (a b e : Air) (none : ended d ≡ []) (left : (sent : List ℕ) → Fits c sent
-    → Fits d (last_in f sent))
+    → List (List ℕ)) {v w : Whats} (a b e : Air) (none : ended d ≡ []) (left : (sent : Flight) → Fits c sent
+    → Fits d (flight_in f sent))
     (p : GoesBehind l set c f x v a b) (q : GoesBehind l set d g y w b e)
     → happened bits l from (behind_then l set c d f g x y a b e none left p q).steps a
     ≡ happened bits l from p.steps a ++ happened bits l from q.steps b
@@ -295,16 +312,18 @@ happens_then bits from l set c d f g x y {v} {w} a b e none left p q =
     ∙ ap (λ (z : Air). happened bits l from p.steps a ++ happened bits l from q.steps z) p.air_is
 
 pub logs_then : (l : ℕ) (set : Marks) (c d : Behind) (f g : List Record) (x y : Side → ℕ
-    → List (List ℕ)) {v w : Whats} (a b e : Air) (none : ended d ≡ []) (left : (sent : List ℕ) → Fits c sent
-    → Fits d (last_in f sent))
+    → List (List ℕ)) {v w : Whats} (a b e : Air) (none : ended d ≡ []) (left : (sent : Flight) → Fits c sent
+    → Fits d (flight_in f sent))
     (p : GoesBehind l set c f x v a b) (q : GoesBehind l set d g y w b e)
     → log_of (behind_then l set c d f g x y a b e none left p q).steps a ≡ log_of p.steps a ++ log_of q.steps b
 unfolding behind_then
 logs_then l set c d f g x y {v} {w} a b e none left p q =
     log_more p.steps q.steps a ∙ ap (λ (z : Air). log_of p.steps a ++ log_of q.steps z) p.air_is
 
-pub logged_both : (f g : List Record) → LogAlone g → logged [] (f ++ g) ≡ logged [] f ++ logged [] g
-logged_both f g h = logged_more [] f g ∙ ap (λ (hs : List LogEntry). logged [] f ++ hs) (h (last_in f []))
+pub logged_both : (f g : List Record) → LogAlone g
+    → logged no_flight (f ++ g) ≡ logged no_flight f ++ logged no_flight g
+logged_both f g h =
+    logged_more no_flight f g ∙ ap (λ (hs : List LogEntry). logged no_flight f ++ hs) (h (flight_in f no_flight))
 
 pub goes_then : (l : ℕ) (set : Marks) (f g : List Record) (x y : Side → ℕ → List (List ℕ)) {v w : Whats} (a b c : Air)
     → Goes l set f x v a b → Goes l set g y w b c
@@ -323,7 +342,7 @@ weaken l set c told given {ws} a b open' p = record {
   sets_none = p.sets_none;
   stays = p.stays;
   reads = λ bits from sent fits. p.reads bits from sent tt
-      ∙ sym (ap (λ (hs : List AccountEntry). hs ++ entries_in bits l from sent told) open');
+      ∙ sym (ap (λ (hs : List AccountEntry). hs ++ entries_in bits l from sent.octets told) open');
   logs = λ sent fits. p.logs sent tt;
   whats_are = p.whats_are;
   air_is = p.air_is;
@@ -356,7 +375,7 @@ TellNoAir told = (bits l : ℕ) (from : Side) (sent : List ℕ) → entries_in b
 
 -- records that tell nothing of an end
 pub goes_none : (l : ℕ) (set : Marks) (c : Behind) (told : List Record) (a : Air) → ended c ≡ []
-    → ((side : Side) → events_of side told ≡ []) → TellNoAir told → ((sent : List ℕ) → logged sent told ≡ [])
+    → ((side : Side) → events_of side told ≡ []) → TellNoAir told → ((sent : Flight) → logged sent told ≡ [])
     → GoesBehind l set c told none no_whats a a
 goes_none l set c told a open' untold unflown unlogged = record {
   steps = [];
@@ -366,8 +385,8 @@ goes_none l set c told a open' untold unflown unlogged = record {
   sets_none = λ off side. tt;
   stays = λ off. tt;
   reads =
-      λ bits from sent fits. sym (ap (λ (hs : List AccountEntry). hs ++ entries_in bits l from sent told) open'
-      ∙ unflown bits l from sent);
+      λ bits from sent fits. sym (ap (λ (hs : List AccountEntry). hs ++ entries_in bits l from sent.octets told) open'
+      ∙ unflown bits l from sent.octets);
   logs = λ sent fits. sym (unlogged sent);
   whats_are = λ bits from. refl;
   air_is = refl;

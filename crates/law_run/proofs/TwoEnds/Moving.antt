@@ -27,12 +27,12 @@ use Rattle.law_deliver.specs.AmFlow.Air.{Station, Air, begins, outset, HasCome}
 use Rattle.law_deliver.proofs.AmFlow.Stations.{come_more}
 use Rattle.promises.specs.Flows.{loops_in}
 use Rattle.law_run.specs.TwoEnds.Shown.{IsShown}
-use Rattle.law_run.specs.TwoEnds.Logs.{LogEntry, all_tell, logged}
+use Rattle.law_run.specs.TwoEnds.Logs.{LogEntry, all_tell, Flight, logged}
 use Rattle.law_run.specs.TwoEnds.On.{until, block_at, IsStation}
 use Rattle.law_words.specs.Arrivals.{AccountEntry}
 use Rattle.law_node.proofs.Silences.{writes_nothing}
 use Rattle.promises.specs.Arrival.{entries_in}
-use Rattle.law_run.proofs.TwoEnds.Going.{moving, Any, Renewed, last_in, TellNoAir, tells_more, logged_more}
+use Rattle.law_run.proofs.TwoEnds.Going.{moving, Any, Renewed, last_in, flight_in, TellNoAir, tells_more, logged_more}
 use Rattle.law_run.proofs.TwoEnds.Steps.{goes_move, move_whats}
 use Rattle.law_run.proofs.TwoEnds.Showing.{in_both, events_own, events_hidden}
 use Rattle.law_run.proofs.TwoEnds.Resting.{loops_rests}
@@ -103,7 +103,7 @@ pub record Moved (keys : Keys) (k : Link) (t : ℕ) (a : Air) : Type 0 where
   pub ue_told : events_of Ue (left_told k) ≡ leaving a.ue.end
   pub unlooped : (i : ℕ) → loops_in i (left_told k) ≡ []
   pub unflown : TellNoAir (left_told k)
-  pub logged_are : (sent : List ℕ)
+  pub logged_are : (sent : Flight)
       → logged sent (left_told k) ≡ all_tell Nb (leaving a.nb.end) ++ all_tell Ue (leaving a.ue.end)
   pub stays : (l : ℕ) → StayShown l k (moved_link keys k)
   pub both : Both (Stands Nb (Waits t)) (Stands Ue (Waits t)) (moved_link keys k)
@@ -137,10 +137,10 @@ moved_so keys k t a h =
           (quiet_events Ue (leaving k.ue) (writes_nothing k.ue).moving);
       logged_are = λ sent.
           logged_more sent xs ys
-          ∙ (ap (λ (hs : List LogEntry). hs ++ logged (last_in xs sent) ys)
+          ∙ (ap (λ (hs : List LogEntry). hs ++ logged (flight_in xs sent) ys)
           (own_logged Nb (leaving k.nb) (tells_no_loop k.nb (Move keys)) sent)
           ∙ (ap (λ (hs : List LogEntry). all_tell Nb (leaving k.nb) ++ hs)
-          (own_logged Ue (leaving k.ue) (tells_no_loop k.ue (Move keys)) (last_in xs sent))
+          (own_logged Ue (leaving k.ue) (tells_no_loop k.ue (Move keys)) (flight_in xs sent))
           ∙ (ap (λ (e : End). all_tell Nb (leaving e) ++ all_tell Ue (leaving k.ue)) (sym h.nb_is)
           ∙ ap (λ (e : End). all_tell Nb (leaving a.nb.end) ++ all_tell Ue (leaving e)) (sym h.ue_is))));
       stays = λ l bits. subst (IsShown l bits) (sym (ap (λ (s : Seen). s.kinds) n_seen));

@@ -18,7 +18,7 @@ use Rattle.law_node.specs.Calls.{Call as EndCall, SetVisits, SetReports, Add, Su
 use Rattle.law_node.specs.Calls.{Visits, Grants, Granted, Assigned, Pass, Receive, Expire, Move, IsGiven as IsGivenTo}
 use Rattle.law_node.specs.Calls.{after as after_call}
 use Rattle.law_node.specs.Telling.{told_of}
-use Rattle.promises.specs.Records.{is_looped, event_of, events_of, sdu_of, sent_last}
+use Rattle.promises.specs.Records.{is_looped, event_of, events_of, sdu_of}
 use Rattle.law_words.specs.Arrivals.{Given, AccountEntry}
 use Rattle.promises.specs.Given.{given_in, entries_of, entries_given}
 use Rattle.promises.specs.Events.{is_on, told_on, is_of_writing, is_of_loop, TellNoLoop}
@@ -35,12 +35,12 @@ use Rattle.um_losses.specs.Told.{picked, told_in, place_behind}
 use Rattle.law_deliver.specs.UmGaps.Whats.{sent_in, expiries}
 use Rattle.promises.specs.Flows.{loops_in, looped_at}
 use Rattle.law_run.specs.TwoEnds.Shown.{IsShown}
-use Rattle.law_run.specs.TwoEnds.Logs.{LogEntry, Tells, all_tell, log_in, logged_at, logged}
+use Rattle.law_run.specs.TwoEnds.Logs.{LogEntry, Tells, all_tell, log_in, Flight, logged_at, logged}
 use Rattle.law_run.specs.TwoEnds.On.{IsStation}
 use Rattle.promises.specs.Arrival.{only_if, entries_at, entries_in}
 use Rattle.law_run.proofs.TwoEnds.Showing.{in_then, behind_then as place_then, events_own, events_hidden}
 use Rattle.law_run.proofs.TwoEnds.Going.{Marks, station, with_station, Behind, Any, Block', Renewed, Unread, Fits, IsAt}
-use Rattle.law_run.proofs.TwoEnds.Going.{ended, first_whats, last_in, Whats, no_whats, GoesBehind, Goes}
+use Rattle.law_run.proofs.TwoEnds.Going.{ended, first_whats, flight_in, flight_more, Whats, no_whats, GoesBehind, Goes}
 use Rattle.law_run.proofs.TwoEnds.Steps.{call_whats}
 use Rattle.law_run.proofs.TwoEnds.Going.{TellNoAir, none, weaken, behind_then, goes_as}
 use Rattle.law_run.proofs.TwoEnds.Steps.{Says, IsPlayed, by_sides}
@@ -94,7 +94,7 @@ none_looped told h Ue n = sym (h n)
 -- what is known at first says of the flows
 none_first : (c : Behind) → ended c ≡ [] → first_whats c ≡ []
 none_first Any e = refl
-none_first (Block' octets process) e = refl
+none_first (Block' side octets process) e = refl
 none_first Renewed e = cc
 none_first Unread e = refl
 
@@ -110,7 +110,7 @@ pub record Reaches (l : ℕ) (set : Marks) (c d : Behind) (handed : Side → ℕ
   pub out_is : m.out ≡ k.out ++ more
   pub ws : Whats
   pub goes : GoesBehind l set c more (λ side n. handed side n ++ looped_at side n more) ws a air
-  pub left : (sent : List ℕ) → Fits c sent → Fits d (last_in more sent)
+  pub left : (sent : Flight) → Fits c sent → Fits d (flight_in more sent)
   pub stands : (p : Cursor) → IsAt c p → IsAt d (place_behind p more)
   pub both : Both P Q m air
   pub stays : (bits : ℕ) → IsShown l bits k.kinds → IsShown l bits m.kinds
@@ -134,10 +134,6 @@ abbrev pub Stage : ℕ → Marks → (Station → Type 0) → (Station → Type 
     → Link → Link → Type 0
 Stage l set P Q R S k m = StageBehind l set Any Any P Q R S k m
 
-pub last_more : (f g : List Record) (sent : List ℕ) → last_in g (last_in f sent) ≡ last_in (f ++ g) sent
-last_more [] g sent = refl
-last_more (one ∷ f) g sent = last_more f g (sent_last one sent)
-
 pub stages_then : (l : ℕ) (set : Marks) (c d e : Behind) → ended d ≡ []
     → (P Q R S T U : Station → Type 0) (k m p : Link) → StageBehind l set c d P Q R S k m
     → StageBehind l set d e R S T U m p
@@ -155,8 +151,8 @@ stages_then l set c d e open' P Q R S T U k m p f g a h =
       goes = goes_as l set (r.more ++ q.more) (λ side n. x side n ++ y side n)
           (λ side n. looped_at side n (r.more ++ q.more)) a q.air (λ side n. looped_more side n r.more q.more)
           (behind_then l set c d r.more q.more x y a r.air q.air open' r.left r.goes q.goes);
-      left = λ sent fits. subst (Fits e) (last_more r.more q.more sent)
-          (q.left (last_in r.more sent) (r.left sent fits));
+      left = λ sent fits. subst (Fits e) (flight_more r.more q.more sent)
+          (q.left (flight_in r.more sent) (r.left sent fits));
       stands = λ v at. subst (IsAt e) (sym (place_then v r.more q.more))
           (q.stands (place_behind v r.more) (r.stands v at));
       both = q.both;
@@ -219,9 +215,9 @@ StayShown l k m = (bits : ℕ) → IsShown l bits k.kinds → IsShown l bits m.k
 
 -- records that tell nothing of an end, nor of the air, and of no SDU of the loop
 told_stage : (l : ℕ) (set : Marks) (c d : Behind) (told : List Record) (k m : Link) (P Q : Station → Type 0)
-    → ended c ≡ [] → ((sent : List ℕ) → Fits c sent → Fits d (last_in told sent))
+    → ended c ≡ [] → ((sent : Flight) → Fits c sent → Fits d (flight_in told sent))
     → ((p : Cursor) → IsAt c p → IsAt d (place_behind p told)) → TellNoAir told
-    → ((sent : List ℕ) → logged sent told ≡ []) → m.nb ≡ k.nb → m.ue ≡ k.ue → m.out ≡ k.out ++ told
+    → ((sent : Flight) → logged sent told ≡ []) → m.nb ≡ k.nb → m.ue ≡ k.ue → m.out ≡ k.out ++ told
     → ((side : Side) → events_of side told ≡ [])
     → ((n : ℕ) → loops_in n told ≡ []) → StayShown l k m → ((d : Direction) (p : Cursor) → told_in d l p told ≡ [])
     → StageBehind l set c d P Q P Q k m
@@ -246,7 +242,7 @@ abbrev pub IsNoChange : Record → Type 0
 IsNoChange one = (p : Cursor) → change_of one p ≡ None
 
 -- one that tells nothing of either end, and of no block, is of no log
-not_logged : (one : Record) → event_of Nb one ≡ [] → event_of Ue one ≡ [] → IsNoChange one → (sent : List ℕ)
+not_logged : (one : Record) → event_of Nb one ≡ [] → event_of Ue one ≡ [] → IsNoChange one → (sent : Flight)
     → logged_at sent one ≡ []
 not_logged (records.Of Nb event) nb ue still sent = by (is_of_loop event) nb
   where
@@ -419,13 +415,13 @@ plain_hears l e (Expire lcid clock) p = refl
 plain_hears l e (Move keys) p = refl
 
 -- its log is what it tells
-pub plain_log : (side : Side) (e : End) (c : EndCall) → IsPlain c → log_in side e c ≡ all_tell side (told_of e c)
+pub plain_log : (side : Side) (e : End) (c : EndCall) → IsPlain c → log_in side 0 e c ≡ all_tell side (told_of e c)
 plain_log side e (Visits t) p = absurd p
 plain_log side e (Receive block) p = absurd p
 plain_log side e c p = refl
 
 -- as records tell it, where the test loop drops nothing
-pub own_logged : (side : Side) (es : List Event) → TellNoLoop es → (sent : List ℕ)
+pub own_logged : (side : Side) (es : List Event) → TellNoLoop es → (sent : Flight)
     → logged sent (map (records.Of side) es) ≡ all_tell side es
 own_logged side [] q sent = refl
 own_logged side (e ∷ es) q sent = by (is_of_loop e) q (λ r. own_logged side es r sent)
@@ -442,7 +438,7 @@ pub says_so : (side : Side) (told : List Record) (given : Side → ℕ → List 
     → IsPlain c → keys_in c ≡ [] → TellNoAir told
     → events_of side told ≡ told_of e c → events_of (other side) told ≡ []
     → ((n : ℕ) → submitted_in n e c ≡ given side n)
-    → ((n : ℕ) → [] ≡ given (other side) n) → ((sent : List ℕ) → log_in side e c ≡ logged sent told)
+    → ((n : ℕ) → [] ≡ given (other side) n) → ((sent : Flight) → log_in side 0 e c ≡ logged sent told)
     → Says side told given e c
 says_so side told given e c plain stays unflown own far submits rests logs = record {
   told_is = own;
@@ -483,7 +479,7 @@ says_at side told given c e f is x = subst (λ (y : End). Says side told given y
 
 -- behind a block, of which the records leave what is known
 abbrev pub IsLeft : Behind → List Record → Type 0
-IsLeft b told = (sent : List ℕ) → Fits b sent → Fits b (last_in told sent)
+IsLeft b told = (sent : Flight) → Fits b sent → Fits b (flight_in told sent)
 
 abbrev pub IsStill : Behind → List Record → Type 0
 IsStill b told = (p : Cursor) → IsAt b p → IsAt b (place_behind p told)

@@ -20,7 +20,7 @@ use Rattle.law_run.specs.TwoEnds.On.{IsOn}
 use Rattle.law_run.specs.TwoEnds.Staying.{AreInLife, is_handover_step, MovesOn}
 use Rattle.law_run.proofs.TwoEnds.Advancing.{steps_stay, handovers_move}
 use Rattle.promises.specs.Arrival.{entries_in}
-use Rattle.law_run.specs.TwoEnds.Logs.{LogEntry, log_of, logged, LogAlone}
+use Rattle.law_run.specs.TwoEnds.Logs.{LogEntry, log_of, no_flight, logged, LogAlone}
 use Rattle.law_run.proofs.TwoEnds.Going.{logs_then, logged_both}
 use Rattle.law_run.proofs.TwoEnds.Going.{setting, Unread, Whats, GoesBehind, behind_then, happens_then}
 use Rattle.law_run.proofs.TwoEnds.Coming.{either_off, ends_come_by, come_as}
@@ -87,7 +87,7 @@ lived_by : (l : ℕ) (nb ue : End) (told : List Record) (submitted : Side → �
     → List AccountEntry) (set : Bool) (m : Link) {ws : Whats} (b : Air)
     (x : Goes l set told submitted ws (outset nb ue) b)
     → ((bits : ℕ) (from : Side) → happened bits l from x.steps (outset nb ue) ≡ said bits from)
-    → log_of x.steps (outset nb ue) ≡ logged [] told → IsOn m b
+    → log_of x.steps (outset nb ue) ≡ logged no_flight told → IsOn m b
     → LivedIn l nb ue told submitted said set m
 lived_by l nb ue told submitted said set m {ws} b x happens logs on = record {
   by = record {
@@ -128,11 +128,11 @@ steps_live_in l nb ue told submitted said set s k g own h =
     refl (λ sent fits. absurd fits) before behind
     ∙ (ap (λ (hs : List AccountEntry). hs ++ happened bits l from x.by.steps b) (h.by.happened_is bits from)
     ∙ ap (λ (hs : List AccountEntry). said bits from ++ hs) (x.by.happened_is bits from)) in
-    let logs : log_of whole.steps a ≡ logged [] (told ++ x.more) =
+    let logs : log_of whole.steps a ≡ logged no_flight (told ++ x.more) =
     logs_then l (setting sets_any) Unread Unread told x.more submitted more a b (lives x.by.steps b) refl
     (λ sent fits. absurd fits) before behind
     ∙ (ap (λ (hs : List LogEntry). hs ++ log_of x.by.steps b) h.by.logged_is
-    ∙ (ap (λ (hs : List LogEntry). logged [] told ++ hs) x.by.logged_is
+    ∙ (ap (λ (hs : List LogEntry). logged no_flight told ++ hs) x.by.logged_is
     ∙ sym (logged_both told x.more x.log_alone))) in
     record {
       more = x.more;

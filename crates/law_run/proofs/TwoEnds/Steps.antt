@@ -28,7 +28,7 @@ use Rattle.law_deliver.specs.AmChannel.Lives.{AirStep, InLife, Moves, brought}
 use Rattle.law_rlc.specs.AmPair.Flow.{except}
 use Rattle.um_losses.specs.declared.flow.Happening.TheVariants.{LifeRestarted}
 use Rattle.law_deliver.specs.UmGaps.Whats.{sent_in, expiries, brought as what_came, whats}
-use Rattle.law_run.specs.TwoEnds.Logs.{LogEntry, all_tell, log_in, log_over, logged}
+use Rattle.law_run.specs.TwoEnds.Logs.{all_tell, log_in, log_come, Flight, logged}
 use Rattle.law_run.specs.TwoEnds.On.{IsHeld, IsStation}
 use Rattle.law_run.proofs.TwoEnds.Flying.{gone, without, without_gone}
 use Rattle.law_run.proofs.TwoEnds.Stations.{Done, wait}
@@ -52,7 +52,7 @@ pub record Says (side : Side) (told : List Record) (given : Side → ℕ
   pub other_submitted : (n : ℕ) → [] ≡ given (other side) n
   pub says : (bits l : ℕ) (sent : List ℕ) → said_in bits l e c ≡ entries_in bits l side sent told
   pub hears : (bits l : ℕ) (sent : List ℕ) → heard_in l e c ≡ entries_in bits l (other side) sent told
-  pub logs : (sent : List ℕ) → log_in side e c ≡ logged sent told
+  pub logs : (sent : Flight) → log_in side 0 e c ≡ logged sent told
 
 -- an end's one call, by what it sends and by what it hears
 said_one : (bits l : ℕ) (e : End) (c : EndCall) → ((said_in bits l e c ++ []) ++ []) ++ [] ≡ said_in bits l e c
@@ -62,12 +62,6 @@ said_one bits l e c =
 
 heard_one : (l : ℕ) (e : End) (c : EndCall) → ([] ++ (heard_in l e c ++ [])) ++ [] ≡ heard_in l e c
 heard_one l e c = let hs = heard_in l e c in append-nil (hs ++ []) ∙ append-nil hs
-
-nb_one : (hs : List LogEntry) → ((hs ++ []) ++ []) ++ [] ≡ hs
-nb_one hs = append-nil ((hs ++ []) ++ []) ∙ (append-nil (hs ++ []) ∙ append-nil hs)
-
-ue_one : (hs : List LogEntry) → ([] ++ (hs ++ [])) ++ [] ≡ hs
-ue_one hs = append-nil (hs ++ []) ∙ append-nil hs
 
 -- a call in a life, in which it sets no discard timer on the channel where `set` is false
 pub record IsPlayed (l : ℕ) (set : Marks) (c : EndCall) : Type 0 where
@@ -120,9 +114,9 @@ goes_call l set Nb told given c a g life calling x =
       stays = λ off. tt;
       reads =
           λ bits from sent fits. by_sides (λ (side : Side). happened bits l side xs a
-          ≡ entries_in bits l side sent told) (said_one bits l a.nb.end c ∙ x.says bits l sent)
-          (heard_one l a.nb.end c ∙ x.hears bits l sent) from;
-      logs = λ sent fits. nb_one (log_in Nb a.nb.end c) ∙ x.logs sent;
+          ≡ entries_in bits l side sent.octets told) (said_one bits l a.nb.end c ∙ x.says bits l sent.octets)
+          (heard_one l a.nb.end c ∙ x.hears bits l sent.octets) from;
+      logs = λ sent fits. append-nil (log_in Nb 0 a.nb.end c) ∙ x.logs sent;
       whats_are = whats_by l xs a (call_whats Nb l a.nb.end c) (λ bits. append-nil (sent_in Nb l bits a.nb.end c))
           (λ bits. append-nil (expiries l (told_of a.nb.end c)));
       air_is = refl;
@@ -140,9 +134,9 @@ goes_call l set Ue told given c a g life calling x =
       stays = λ off. tt;
       reads =
           λ bits from sent fits. by_sides (λ (side : Side). happened bits l side xs a
-          ≡ entries_in bits l side sent told) (heard_one l a.ue.end c ∙ x.hears bits l sent)
-          (said_one bits l a.ue.end c ∙ x.says bits l sent) from;
-      logs = λ sent fits. ue_one (log_in Ue a.ue.end c) ∙ x.logs sent;
+          ≡ entries_in bits l side sent.octets told) (heard_one l a.ue.end c ∙ x.hears bits l sent.octets)
+          (said_one bits l a.ue.end c ∙ x.says bits l sent.octets) from;
+      logs = λ sent fits. append-nil (log_in Ue 0 a.ue.end c) ∙ x.logs sent;
       whats_are = whats_by l xs a (call_whats Ue l a.ue.end c) (λ bits. append-nil (expiries l (told_of a.ue.end c)))
           (λ bits. append-nil (sent_in Ue l bits a.ue.end c));
       air_is = refl;
@@ -151,11 +145,11 @@ goes_call l set Ue told given c a g life calling x =
 -- a block of the other end comes
 
 -- the records tell that it comes, of what the other end sends
-pub record Brings (l : ℕ) (c : Behind) (side : Side) (told : List Record) (octets : List ℕ) (e : End) : Type 0 where
-  pub own : (bits : ℕ) (sent : List ℕ) → Fits c sent → entries_in bits l side sent told ≡ []
-  pub far : (bits : ℕ) (sent : List ℕ) → Fits c sent
-      → entries_in bits l (other side) sent told ≡ heard_in l e (Receive octets)
-  pub log : (sent : List ℕ) → Fits c sent → logged sent told ≡ log_in side e (Receive octets)
+pub record Brings (l : ℕ) (c : Behind) (side : Side) (told : List Record) (b : Block) (e : End) : Type 0 where
+  pub own : (bits : ℕ) (sent : Flight) → Fits c sent → entries_in bits l side sent.octets told ≡ []
+  pub far : (bits : ℕ) (sent : Flight) → Fits c sent
+      → entries_in bits l (other side) sent.octets told ≡ heard_in l e (Receive b.octets)
+  pub log : (sent : Flight) → Fits c sent → logged sent told ≡ log_come side e (Some b)
 
 none_said : (bits l : ℕ) (o : Option Block) (e : End) → (said_over bits l (brought o) e ++ []) ++ [] ≡ []
 none_said bits l None e = refl
@@ -166,7 +160,7 @@ come_unset l None = tt
 come_unset l (Some b) = (refl, tt)
 
 pub goes_come : (l : ℕ) (set : Marks) (c : Behind) (side : Side) (told : List Record) (k : ℕ) (b : Block) (a : Air)
-    → ended c ≡ [] → Brings l c side told b.octets (station side a).end
+    → ended c ≡ [] → Brings l c side told b (station side a).end
     → slice_get (station (other side) a).blocks k ≡ Some b
     → events_of side told ≡ told_of (station side a).end (Receive b.octets) → events_of (other side) told ≡ []
     → GoesBehind l set c told none (come_whats side l (station side a).end b) a
@@ -187,16 +181,16 @@ goes_come l set c Nb told k b a open' brings there is untold =
       stays = λ off. tt;
       reads =
           λ bits from sent fits. by_sides (λ (s : Side). happened bits l s xs a
-          ≡ ended c ++ entries_in bits l s sent told)
+          ≡ ended c ++ entries_in bits l s sent.octets told)
           (none_said bits l (slice_get a.ue.blocks k) e
-          ∙ sym (ap (λ (hs : List AccountEntry). hs ++ entries_in bits l Nb sent told) open'
+          ∙ sym (ap (λ (hs : List AccountEntry). hs ++ entries_in bits l Nb sent.octets told) open'
           ∙ brings.own bits sent fits))
           (ap (λ (o : Option Block). ([] ++ heard_over l (brought o) e) ++ []) there
           ∙ (heard_one l e (Receive b.octets)
-          ∙ sym (ap (λ (hs : List AccountEntry). hs ++ entries_in bits l Ue sent told) open'
+          ∙ sym (ap (λ (hs : List AccountEntry). hs ++ entries_in bits l Ue sent.octets told) open'
           ∙ brings.far bits sent fits))) from;
-      logs = λ sent fits. ap (λ (o : Option Block). ((log_over Nb (brought o) e) ++ []) ++ []) there
-          ∙ (nb_one (log_in Nb e (Receive b.octets)) ∙ sym (brings.log sent fits));
+      logs = λ sent fits. ap (λ (o : Option Block). log_come Nb e o ++ []) there
+          ∙ (append-nil (log_come Nb e (Some b)) ∙ sym (brings.log sent fits));
       whats_are = whats_by l xs a (come_whats Nb l e b) (λ bits. refl)
           (λ bits. append-nil (what_came l e (slice_get a.ue.blocks k)) ∙ ap (what_came l e) there);
       air_is = ap (λ (o : Option Block). record a { nb = comes a.nb o }) there;
@@ -217,16 +211,16 @@ goes_come l set c Ue told k b a open' brings there is untold =
       stays = λ off. tt;
       reads =
           λ bits from sent fits. by_sides (λ (s : Side). happened bits l s xs a
-          ≡ ended c ++ entries_in bits l s sent told)
+          ≡ ended c ++ entries_in bits l s sent.octets told)
           (ap (λ (o : Option Block). ([] ++ heard_over l (brought o) e) ++ []) there
           ∙ (heard_one l e (Receive b.octets)
-          ∙ sym (ap (λ (hs : List AccountEntry). hs ++ entries_in bits l Nb sent told) open'
+          ∙ sym (ap (λ (hs : List AccountEntry). hs ++ entries_in bits l Nb sent.octets told) open'
           ∙ brings.far bits sent fits)))
           (none_said bits l (slice_get a.nb.blocks k) e
-          ∙ sym (ap (λ (hs : List AccountEntry). hs ++ entries_in bits l Ue sent told) open'
+          ∙ sym (ap (λ (hs : List AccountEntry). hs ++ entries_in bits l Ue sent.octets told) open'
           ∙ brings.own bits sent fits)) from;
-      logs = λ sent fits. ap (λ (o : Option Block). ([] ++ log_over Ue (brought o) e) ++ []) there
-          ∙ (ue_one (log_in Ue e (Receive b.octets)) ∙ sym (brings.log sent fits));
+      logs = λ sent fits. ap (λ (o : Option Block). log_come Ue e o ++ []) there
+          ∙ (append-nil (log_come Ue e (Some b)) ∙ sym (brings.log sent fits));
       whats_are =
           whats_by l xs a (come_whats Ue l e b) (λ bits. append-nil (what_came l e (slice_get a.nb.blocks k))
           ∙ ap (what_came l e) there) (λ bits. refl);
@@ -237,7 +231,7 @@ goes_come l set c Ue told k b a open' brings there is untold =
 
 pub goes_move : (l : ℕ) (set : Bool) (told : List Record) (keys : Keys) (a : Air) → TellNoAir told
     → events_of Nb told ≡ leaving a.nb.end → events_of Ue told ≡ leaving a.ue.end
-    → ((sent : List ℕ) → logged sent told ≡ all_tell Nb (leaving a.nb.end) ++ all_tell Ue (leaving a.ue.end))
+    → ((sent : Flight) → logged sent told ≡ all_tell Nb (leaving a.nb.end) ++ all_tell Ue (leaving a.ue.end))
     → GoesBehind l (moving set) Renewed told none (move_whats l a keys) a
     (outset (after_call a.nb.end (Move keys)) (after_call a.ue.end (Move keys)))
 goes_move l set told keys a unflown nb ue log =
@@ -252,14 +246,11 @@ goes_move l set told keys a unflown nb ue log =
       stays = λ off. absurd cc;
       reads =
           λ bits from sent fits. by_sides (λ (s : Side). happened bits l s xs a
-          ≡ Renews ∷ entries_in bits l s sent told)
-          (ap (λ (hs : List AccountEntry). Renews ∷ hs) (sym (unflown bits l Nb sent)))
-          (ap (λ (hs : List AccountEntry). Renews ∷ hs) (sym (unflown bits l Ue sent))) from;
+          ≡ Renews ∷ entries_in bits l s sent.octets told)
+          (ap (λ (hs : List AccountEntry). Renews ∷ hs) (sym (unflown bits l Nb sent.octets)))
+          (ap (λ (hs : List AccountEntry). Renews ∷ hs) (sym (unflown bits l Ue sent.octets))) from;
       logs = λ sent fits.
-          let ns = all_tell Nb (leaving a.nb.end) in let us = all_tell Ue (leaving a.ue.end) in
-          append-nil ((ns ++ []) ++ (us ++ []))
-          ∙ (ap (λ (hs : List LogEntry). hs ++ (us ++ [])) (append-nil ns)
-          ∙ (ap (λ (hs : List LogEntry). ns ++ hs) (append-nil us) ∙ sym (log sent)));
+          append-nil (all_tell Nb (leaving a.nb.end) ++ all_tell Ue (leaving a.ue.end)) ∙ sym (log sent);
       whats_are = whats_by l xs a (move_whats l a keys) (λ bits. append-nil (move_whats l a keys bits Nb))
           (λ bits. append-nil (move_whats l a keys bits Ue));
       air_is = refl;

@@ -87,17 +87,17 @@ module _ (l : ℕ) (set : Marks) where
   -- what comes of it is told, and where it is got the terminal hears it
   lands_stage : (a : Answer) (octets : List ℕ) (v : ℕ) (heard : Option Bool) (k : Link) (P : Station
       → Type 0) (u : Moment) → ((s : Station) → P s → Flown octets v s)
-      → StageBehind l set (Block' octets v) Any P (Stands Ue u) P (Stands Ue u) k
+      → StageBehind l set (Block' Nb octets v) Any P (Stands Ue u) P (Stands Ue u) k
       (hears_by a octets (says (records.Air directions.Down (told_as a) heard) k))
   lands_stage Up octets v heard k P u flown = hears_ue l set octets v heard k P u flown
   lands_stage Again octets v heard k P u flown =
-      says_behind l set (Block' octets v) (records.Air directions.Down arriveds.Dup heard) k P (Stands Ue u) refl
+      says_behind l set (Block' Nb octets v) (records.Air directions.Down arriveds.Dup heard) k P (Stands Ue u) refl
       (λ bits m from sent. refl) refl refl (λ n. refl) (λ c. refl)
   lands_stage Damaged octets v heard k P u flown =
-      says_behind l set (Block' octets v) (records.Air directions.Down arriveds.Bad heard) k P (Stands Ue u) refl
+      says_behind l set (Block' Nb octets v) (records.Air directions.Down arriveds.Bad heard) k P (Stands Ue u) refl
       (λ bits m from sent. refl) refl refl (λ n. refl) (λ c. refl)
   lands_stage Nothing octets v heard k P u flown =
-      says_behind l set (Block' octets v) (records.Air directions.Down arriveds.Nothing heard) k P (Stands Ue u) refl
+      says_behind l set (Block' Nb octets v) (records.Air directions.Down arriveds.Nothing heard) k P (Stands Ue u) refl
       (λ bits m from sent. refl) refl refl (λ n. refl) (λ c. refl)
 
   goes_down : (v : Visit) (t grant : ℕ) (order : Order) (o : Outcome) (ndi : Bool) (octets : List ℕ) (k : Link)
@@ -122,7 +122,7 @@ module _ (l : ℕ) (set : Marks) where
       let Q = Stands Ue u in
       let W = Stands Nb (Waits t) in
       let D = Stands Nb (Done t) in
-      let B = Block' octets (t % 8) in
+      let B = Block' Nb octets (t % 8) in
       let first : StageBehind l set Any B W Q P Q k f =
       visit_nb l set B turn more k f Q (λ sent. visit_last v Nb turn k.kinds octets k.nb sent sends_it)
       (λ p. visit_behind v Nb turn k.kinds octets k.nb p sends_it) (record {
@@ -200,11 +200,11 @@ module _ (l : ℕ) (set : Marks) where
 
   rises_stage : (good : Bool) (octets : List ℕ) (v : ℕ) (heard : Option Bool) (k : Link) (n : Moment) (Q : Station
       → Type 0) → ((s : Station) → Q s → Flown octets v s)
-      → StageBehind l set (Block' octets v) Any (Stands Nb n) Q (Stands Nb n) Q k
+      → StageBehind l set (Block' Ue octets v) Any (Stands Nb n) Q (Stands Nb n) Q k
       (hears_if good octets (says (records.Air directions.Up (up_told_as good) heard) k))
   rises_stage true octets v heard k n Q flown = hears_nb l set octets v heard k n Q flown
   rises_stage false octets v heard k n Q flown =
-      says_behind l set (Block' octets v) (records.Air directions.Up arriveds.Bad heard) k (Stands Nb n) Q refl
+      says_behind l set (Block' Ue octets v) (records.Air directions.Up arriveds.Bad heard) k (Stands Nb n) Q refl
       (λ bits m from sent. refl) refl refl (λ n. refl) (λ c. refl)
 
   goes_up : (v : Visit) (t grant : ℕ) (order : Order) (o : Outcome) (octets : List ℕ) (k : Link) (m : Moment)
@@ -229,7 +229,7 @@ module _ (l : ℕ) (set : Marks) where
       let Q = Visiting Ue turn k.ue in
       let W = Stands Ue (Waits t) in
       let D = Stands Ue (Done t) in
-      let B = Block' octets (t % 8) in
+      let B = Block' Ue octets (t % 8) in
       let first : StageBehind l set Any B P W P Q k f =
       visit_ue l set B turn more k f P (λ sent. visit_last v Ue turn k.kinds octets k.ue sent sends_it)
       (λ p. visit_behind v Ue turn k.kinds octets k.ue p sends_it) (record {

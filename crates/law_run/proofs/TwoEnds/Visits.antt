@@ -1,6 +1,6 @@
 -- What the records of a visit tell, and of what goes by air.
 use Rattle.std.proofs.Common.{◌≡◌, ℕ, ◌%◌, Bool, true, false, ◌&&◌, cond, Option}
-use Rattle.std.proofs.Common.{List, [], ◌∷◌, ◌++◌, map, append-nil, refl, ap, sym, ◌∙◌}
+use Rattle.std.proofs.Common.{List, [], ◌∷◌, ◌++◌, map, append-nil, refl, ap, sym, subst, ◌∙◌}
 use Rattle.std.specs.Prelude.{slice_get}
 use Rattle.std.specs.List.{AllByRecursion, flat_map}
 use Rattle.std.proofs.lemmas.Grind.{flat_map-append}
@@ -42,10 +42,11 @@ use Rattle.law_deliver.specs.AmChannel.Arrival.{said_in}
 use Rattle.mac_pdu.specs.Reading.{reading}
 use Rattle.l2_node.specs.Writing.{new_block}
 use Rattle.promises.specs.Arrival.{only_if, entries_at, entries_in}
-use Rattle.law_run.specs.TwoEnds.Logs.{LogEntry, Builds, all_tell, log_in, logged_at, logged}
-use Rattle.law_run.proofs.TwoEnds.Going.{last_in, tells_more, logged_more}
+use Rattle.law_run.specs.TwoEnds.Logs.{LogEntry, Builds, all_tell, log_in, Flight, flight_behind, logged_at, logged}
+use Rattle.law_run.proofs.TwoEnds.Going.{Block', Fits, last_in, flight_in, flight_more, tells_more}
+use Rattle.law_run.proofs.TwoEnds.Going.{logged_more}
 use Rattle.law_run.proofs.TwoEnds.Showing.{IsSending}
-use Rattle.law_run.proofs.TwoEnds.Stages.{last_more, own_logged}
+use Rattle.law_run.proofs.TwoEnds.Stages.{own_logged}
 use Rattle.law_run.proofs.TwoEnds.Stages.{unlooped_by, events_unlooped, looped_more}
 use Rattle.law_run.proofs.TwoEnds.Blocks.{Flown, Visiting}
 use Rattle.law_run.proofs.TwoEnds.Blocks.{answer_to}
@@ -166,7 +167,7 @@ shown_at bits l from sent (records.Block direction process fresh version octets)
 shown_at bits l from sent (records.Air direction what heard) e = cc
 shown_at bits l from sent one e = refl
 
-shown_last : (one : Record) (sent : List ℕ) → is_shown one ≡ true → sent_last one sent ≡ sent
+shown_last : (one : Record) (sent : Flight) → is_shown one ≡ true → flight_behind one sent ≡ sent
 shown_last (records.Block direction process fresh version octets) sent e = cc
 shown_last one sent e = refl
 
@@ -177,27 +178,34 @@ shown_tell (one ∷ told) a bits l from sent =
     ap (λ (hs : List AccountEntry). hs ++ entries_in bits l from (sent_last one sent) told)
     (shown_at bits l from sent one a.0) ∙ shown_tell told a.1 bits l from (sent_last one sent)
 
-shown_leave : (told : List Record) → AllShown told → (sent : List ℕ) → last_in told sent ≡ sent
+shown_leave : (told : List Record) → AllShown told → (sent : Flight) → flight_in told sent ≡ sent
 shown_leave [] a sent = refl
-shown_leave (one ∷ told) a sent = shown_leave told a.1 (sent_last one sent) ∙ shown_last one sent a.0
+shown_leave (one ∷ told) a sent = shown_leave told a.1 (flight_behind one sent) ∙ shown_last one sent a.0
 
-events_leave : (side : Side) (es : List Event) (sent : List ℕ) → last_in (map (records.Of side) es) sent ≡ sent
-events_leave side [] sent = refl
-events_leave side (e ∷ es) sent = events_leave side es sent
+-- behind the block its side's process and its octets are known
+block_leaves : (side : Side) (p : ℕ) (fresh : Bool) (rv : ℕ) (octets : List ℕ) (sent' : Flight)
+    → Fits (Block' side octets p) (flight_behind (records.Block (sent_by side) p fresh rv octets) sent')
+block_leaves Nb p fresh rv octets sent' = (refl, refl)
+block_leaves Ue p fresh rv octets sent' = (refl, refl)
 
-sent_leave : (v : Visit) (side : Side) (t : ℕ) (kinds : List (Option Layout)) (octets sent' : List ℕ) → IsSending v
-    → last_in (sent v side t kinds octets) sent' ≡ octets
+sent_leave : (v : Visit) (side : Side) (t : ℕ) (kinds : List (Option Layout)) (octets : List ℕ) (sent' : Flight)
+    → IsSending v → Fits (Block' side octets (t % 8)) (flight_in (sent v side t kinds octets) sent')
 sent_leave New side t kinds octets sent' s =
-    shown_leave (block_shown (sent_by side) kinds octets) (block_shows kinds (reading (sent_by side) octets)) octets
-sent_leave (Resend rv) side t kinds octets sent' s = refl
+    subst (Fits (Block' side octets (t % 8)))
+    (sym (shown_leave (block_shown (sent_by side) kinds octets) (block_shows kinds (reading (sent_by side) octets))
+    (flight_behind (records.Block (sent_by side) (t % 8) true 0 octets) sent')))
+    (block_leaves side (t % 8) true 0 octets sent')
+sent_leave (Resend rv) side t kinds octets sent' s = block_leaves side (t % 8) false rv octets sent'
 sent_leave Quiet side t kinds octets sent' s = absurd s
 
 pub visit_last : (v : Visit) (side : Side) (t : Turn) (kinds : List (Option Layout)) (octets : List ℕ) (e : End)
-    (sent' : List ℕ) → IsSending v
-    → last_in (visit_records v side t.tti t.grant t.order kinds octets e) sent' ≡ octets
+    (sent' : Flight) → IsSending v
+    → Fits (Block' side octets (t.tti % 8))
+    (flight_in (visit_records v side t.tti t.grant t.order kinds octets e) sent')
 visit_last v side t kinds octets e sent' s =
-    sym (last_more (map (records.Of side) (building t.tti t.grant t.order e)) (sent v side t.tti kinds octets) sent')
-    ∙ sent_leave v side t.tti kinds octets (last_in (map (records.Of side) (building t.tti t.grant t.order e)) sent') s
+    let told = map (records.Of side) (building t.tti t.grant t.order e) in
+    subst (Fits (Block' side octets (t.tti % 8))) (flight_more told (sent v side t.tti kinds octets) sent')
+    (sent_leave v side t.tti kinds octets (flight_in told sent') s)
 
 -- the block, by its sender
 sent_tells : (v : Visit) (bits l : ℕ) (side : Side) (t : Turn) (kinds : List (Option Layout)) (octets : List ℕ)
@@ -281,33 +289,34 @@ quiet_says bits l side t e sent' is =
     ∙ (append-nil (entries_given bits (told_on l es)) ∙ sym (own_tell bits l side es sent'))
 
 -- and in one order
-shown_log_at : (sent : List ℕ) (one : Record) → is_shown one ≡ true → logged_at sent one ≡ []
+shown_log_at : (sent : Flight) (one : Record) → is_shown one ≡ true → logged_at sent one ≡ []
 shown_log_at sent (records.Of side event) e = cc
 shown_log_at sent (records.Block direction process fresh version octets) e = cc
 shown_log_at sent (records.Air direction what heard) e = cc
 shown_log_at sent one e = refl
 
-shown_log : (told : List Record) → AllShown told → (sent : List ℕ) → logged sent told ≡ []
+shown_log : (told : List Record) → AllShown told → (sent : Flight) → logged sent told ≡ []
 shown_log [] a sent = refl
 shown_log (one ∷ told) a sent =
-    ap (λ (hs : List LogEntry). hs ++ logged (sent_last one sent) told) (shown_log_at sent one a.0)
-    ∙ shown_log told a.1 (sent_last one sent)
+    ap (λ (hs : List LogEntry). hs ++ logged (flight_behind one sent) told) (shown_log_at sent one a.0)
+    ∙ shown_log told a.1 (flight_behind one sent)
 
-abbrev all_built : Side → List (List ℕ) → List LogEntry
-all_built side blocks = map (λ (octets : List ℕ). Builds side octets) blocks
+abbrev all_built : Side → ℕ → List (List ℕ) → List LogEntry
+all_built side t blocks = map (λ (octets : List ℕ). Builds side (t % 8) octets) blocks
 
 sent_logs : (v : Visit) (side : Side) (t : Turn) (kinds : List (Option Layout)) (octets : List ℕ) (e : End)
-    (sent' : List ℕ) → visit t.tti t.order e ≡ v → HasCome side e
+    (sent' : Flight) → visit t.tti t.order e ≡ v → HasCome side e
     → octets ≡ block_at t.tti (built t.tti t.grant t.order e)
     → logged sent' (sent v side t.tti kinds octets)
-    ≡ all_built side (map (λ (x : Block). x.octets) (built_at v t (visited t.tti t.order e)))
+    ≡ all_built side t.tti (map (λ (x : Block). x.octets) (built_at v t (visited t.tti t.order e)))
 sent_logs New side t kinds octets e sent' is come are =
     let own : (new_block (visited t.tti t.order e) t.grant) ≡ octets =
     sym (block_is t.tti t.grant t.order e (come_eight side e come) is) ∙ sym are in
-    ap (λ (hs : List LogEntry). Builds (sender_of (sent_by side)) octets ∷ hs)
-    (shown_log (block_shown (sent_by side) kinds octets) (block_shows kinds (reading (sent_by side) octets)) octets)
-    ∙ (ap (λ (s : Side). Builds s octets ∷ []) (itself side)
-    ∙ ap (λ (o : List ℕ). Builds side o ∷ []) (sym own))
+    ap (λ (hs : List LogEntry). Builds (sender_of (sent_by side)) (t.tti % 8) octets ∷ hs)
+    (shown_log (block_shown (sent_by side) kinds octets) (block_shows kinds (reading (sent_by side) octets))
+    (flight_behind (records.Block (sent_by side) (t.tti % 8) true 0 octets) sent'))
+    ∙ (ap (λ (s : Side). Builds s (t.tti % 8) octets ∷ []) (itself side)
+    ∙ ap (λ (o : List ℕ). Builds side (t.tti % 8) o ∷ []) (sym own))
   where
     itself : (s : Side) → sender_of (sent_by s) ≡ s
     itself Nb = refl
@@ -316,26 +325,26 @@ sent_logs (Resend rv) side t kinds octets e sent' is come are = refl
 sent_logs Quiet side t kinds octets e sent' is come are = refl
 
 pub visit_logs : (v : Visit) (side : Side) (t : Turn) (kinds : List (Option Layout)) (octets : List ℕ) (e : End)
-    (sent' : List ℕ) → visit t.tti t.order e ≡ v → HasCome side e
+    (sent' : Flight) → visit t.tti t.order e ≡ v → HasCome side e
     → octets ≡ block_at t.tti (built t.tti t.grant t.order e)
-    → log_in side e (Visits t) ≡ logged sent' (visit_records v side t.tti t.grant t.order kinds octets e)
+    → log_in side 0 e (Visits t) ≡ logged sent' (visit_records v side t.tti t.grant t.order kinds octets e)
 visit_logs v side t kinds octets e sent' is come are =
     let es = building t.tti t.grant t.order e in
     let xs = map (records.Of side) es in
     let ys = sent v side t.tti kinds octets in
     let f = visited t.tti t.order e in
-    ap (λ (w : Visit). all_tell side es ++ all_built side (map (λ (x : Block). x.octets) (built_at w t f))) is
+    ap (λ (w : Visit). all_tell side es ++ all_built side t.tti (map (λ (x : Block). x.octets) (built_at w t f))) is
     ∙ (ap (λ (hs : List LogEntry). all_tell side es ++ hs)
-    (sym (sent_logs v side t kinds octets e (last_in xs sent') is come are))
-    ∙ (ap (λ (hs : List LogEntry). hs ++ logged (last_in xs sent') ys)
+    (sym (sent_logs v side t kinds octets e (flight_in xs sent') is come are))
+    ∙ (ap (λ (hs : List LogEntry). hs ++ logged (flight_in xs sent') ys)
     (sym (own_logged side es (tells_no_loop e (Visits t)) sent')) ∙ sym (logged_more sent' xs ys)))
 
-pub quiet_logs : (side : Side) (t : Turn) (e : End) (sent' : List ℕ) → visit t.tti t.order e ≡ Quiet
-    → log_in side e (Visits t) ≡ logged sent' (map (records.Of side) (building t.tti t.grant t.order e))
+pub quiet_logs : (side : Side) (t : Turn) (e : End) (sent' : Flight) → visit t.tti t.order e ≡ Quiet
+    → log_in side 0 e (Visits t) ≡ logged sent' (map (records.Of side) (building t.tti t.grant t.order e))
 quiet_logs side t e sent' is =
     let es = building t.tti t.grant t.order e in
     ap (λ (w : Visit). all_tell side es
-    ++ all_built side (map (λ (x : Block). x.octets) (built_at w t (visited t.tti t.order e)))) is
+    ++ all_built side t.tti (map (λ (x : Block). x.octets) (built_at w t (visited t.tti t.order e)))) is
     ∙ (append-nil (all_tell side es) ∙ sym (own_logged side es (tells_no_loop e (Visits t)) sent'))
 
 -- and of no SDU of the test loop

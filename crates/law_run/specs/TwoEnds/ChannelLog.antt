@@ -29,9 +29,9 @@ coming pdus = map (λ (octets : List ℕ). Comes octets) pdus
 
 abbrev pub on_channel_at : ℕ → Side → LogEntry → List BearerEntry
 on_channel_at l side (EndTells s e) = if is_same s side && is_on l e then Tells e ∷ [] else []
-on_channel_at l side (Builds s octets) =
+on_channel_at l side (Builds s process octets) =
     if is_same s side then writing (carried l (sent_by s) octets) else []
-on_channel_at l side (Hears s octets) =
+on_channel_at l side (Hears s process octets) =
     if is_same s side then coming (carried l (heard_by s) octets) else []
 
 abbrev pub on_channel : ℕ → Side → List LogEntry → List BearerEntry
@@ -70,16 +70,16 @@ HasRoom e c = Unit {0}
 
 abbrev pub EndsLogOnChannels : Type 0
 EndsLogOnChannels = (side : Side) (maximum : ℕ) (reports : Bool) (past : List Call) (c : Call)
-    (l : ℕ) → AreGiven past → AreNew l past (fresh side maximum reports) → IsGiven c
+    (l process : ℕ) → AreGiven past → AreNew l past (fresh side maximum reports) → IsGiven c
     → GoesOnInLife l c → has l (reached side maximum reports past).bearers ≡ true
     → HasRoom (reached side maximum reports past) c
-    → on_channel l side (log_in side (reached side maximum reports past) c)
+    → on_channel l side (log_in side process (reached side maximum reports past) c)
     ≡ parted (bearer_logs l (flow l (reached side maximum reports past))
     (calls_of l (reached side maximum reports past) c))
 
 -- ---- in steps of both ends: of what they log in one order a side logs what its own calls do
 
 abbrev pub SidesLogTheirCalls : Type 0
-SidesLogTheirCalls = (l : ℕ) (side : Side) (steps : List AirStep) (a : Air)
+SidesLogTheirCalls = (l process : ℕ) (side : Side) (steps : List AirStep) (a : Air)
     → on_channel l side (log_of steps a)
-    ≡ on_channel l side (log_over side (all_calls side steps a) (end_at side a))
+    ≡ on_channel l side (log_over side process (all_calls side steps a) (end_at side a))

@@ -17,7 +17,7 @@ use Rattle.law_deliver.specs.AmChannel.Arrival.{happened}
 use Rattle.law_deliver.specs.AmChannel.Delivery.{accepted, was_submitted, SetNone}
 use Rattle.law_deliver.specs.AmChannel.Lives.{AirStep, AreLiving, lives, end_at, all_calls}
 use Rattle.law_run.specs.TwoEnds.Arrival.{told_by_step}
-use Rattle.law_run.specs.TwoEnds.Logs.{log_of, logged, LogAlone}
+use Rattle.law_run.specs.TwoEnds.Logs.{log_of, no_flight, logged, LogAlone}
 use Rattle.promises.specs.Arrival.{entries_in}
 use Rattle.um_losses.specs.declared.cursor.Cursor.{Cursor}
 use Rattle.um_losses.specs.Told.{told_in}
@@ -52,16 +52,16 @@ TellAlone l told = (bits : ℕ) (from : Side) (sent : List ℕ)
 
 -- steps that keep what is asked in lives of the channel's bearers bring the ends to those of a
 -- link; the records tell of each end exactly what it tells in its calls, and in one order what both
--- tell, build and hear; in these each is submitted exactly those SDUs on each channel, just so much
--- is told of what goes from a side on the channel, and no discard timer is set on it where `set` is
--- false
+-- tell, build and hear, each block with its HARQ process; in these each is submitted exactly those
+-- SDUs on each channel, just so much is told of what goes from a side on the channel, and no
+-- discard timer is set on it where `set` is false
 pub record GoesByAir (l : ℕ) (told : List Record) (submitted : Side → ℕ → List (List ℕ)) (said : ℕ
     → Side → List AccountEntry) (set : Bool) (m : Link) (a : Air) : Type 0 where
   pub steps : List AirStep
   pub living : AreLiving l a steps
   pub told_is : (side : Side) → events_of side told
       ≡ told_over (all_calls side steps a) (end_at side a)
-  pub logged_is : log_of steps a ≡ logged [] told
+  pub logged_is : log_of steps a ≡ logged no_flight told
   pub submitted_is : (side : Side) (n : ℕ)
       → was_submitted n (all_calls side steps a) (end_at side a) ≡ submitted side n
   pub happened_is : (bits : ℕ) (from : Side) → happened bits l from steps a ≡ said bits from

@@ -1,0 +1,71 @@
+-- A journal's gatherer knows the HARQ process of the block that a side sent last as the log of its records does
+-- (TS 36.321 5.3.2, 5.4.2).
+use Rattle.std.proofs.Common.{◌≡◌, Bool, true, false, if◌then◌else◌, Option, List, [], ◌∷◌, refl, ap, ◌∙◌}
+use Rattle.air_record.specs.declared.record.Record.{Record}
+use Rattle.air_record.specs.declared.record.Record.TheVariants as records
+use Rattle.bearer_types.specs.declared.event.Event.{Event}
+use Rattle.bearer_types.specs.declared.event.Event.TheVariants as events
+use Rattle.l2_types.specs.declared.side.Side.{Side}
+use Rattle.l2_types.specs.declared.side.Side.TheVariants.{Nb, Ue}
+use Rattle.mac_pdu.specs.declared.item.Direction.TheVariants as directions
+use Rattle.air_text.specs.Groups.{Group}
+use Rattle.pdu_show.specs.declared.kinds.Layout.{Layout}
+use Rattle.promises.specs.Records.{is_got}
+use Rattle.journal_flows.specs.Gathering.{Gatherer, Journal, sending_of, behind_landing, behind_event, behind_record}
+use Rattle.journal_flows.specs.Gathering.{MayTake, behind_records}
+use Rattle.law_run.specs.TwoEnds.Logs.{Flight, process_of, process_last}
+use Rattle.law_run.proofs.TwoEnds.Going.{process_in, flight_in}
+
+module _ {F : Type 0} (g : Gatherer F) where
+  event_keeps : (kinds : List (Option Layout)) (more : Bool) (by side : Side) (event : Event) (j : Journal F)
+      → (sending_of side (behind_event g kinds more by event j)).process ≡ (sending_of side j).process
+  event_keeps kinds more Nb Nb (events.Send lcid how sn) j = refl
+  event_keeps kinds more Nb Ue (events.Send lcid how sn) j = refl
+  event_keeps kinds more Ue Nb (events.Send lcid how sn) j = refl
+  event_keeps kinds more Ue Ue (events.Send lcid how sn) j = refl
+  event_keeps kinds more by Nb event j = refl
+  event_keeps kinds more by Ue event j = refl
+
+  record_process : (kinds : List (Option Layout)) (more : Bool) (one : Record) (side : Side) (j : Journal F)
+      → (sending_of side (behind_record g kinds more one j)).process
+      ≡ process_last side one (sending_of side j).process
+  record_process kinds more (records.Of by event) side j = event_keeps kinds more by side event j
+  record_process kinds more (records.Block directions.Down process true version octets) Nb j = refl
+  record_process kinds more (records.Block directions.Down process true version octets) Ue j = refl
+  record_process kinds more (records.Block directions.Up process true version octets) Nb j = refl
+  record_process kinds more (records.Block directions.Up process true version octets) Ue j = refl
+  record_process kinds more (records.Block directions.Down process false version octets) Nb j = refl
+  record_process kinds more (records.Block directions.Down process false version octets) Ue j = refl
+  record_process kinds more (records.Block directions.Up process false version octets) Nb j = refl
+  record_process kinds more (records.Block directions.Up process false version octets) Ue j = refl
+  record_process kinds more (records.Air direction what heard) side j = by (is_got what) side
+    where
+      by : (b : Bool) (s : Side) → (sending_of s (if b then behind_landing g direction j else j)).process
+          ≡ (sending_of s j).process
+      by true Nb = refl
+      by true Ue = refl
+      by false s = refl
+  record_process kinds more one side j = refl
+
+  pub records_process : (may_take : MayTake) (past : List Group) (kinds : List (Option Layout))
+      (before told : List Record) (side : Side) (j : Journal F)
+      → (sending_of side (behind_records g may_take past kinds before told j)).process
+      ≡ process_in side told (sending_of side j).process
+  records_process may_take past kinds before [] side j = refl
+  records_process may_take past kinds before (one ∷ told) side j =
+      records_process may_take past kinds (one ∷ before) told side
+      (behind_record g kinds (may_take past before one) one j)
+      ∙ ap (process_in side told) (record_process kinds (may_take past before one) one side j)
+
+  -- as the log knows it
+  pub processes_are : (may_take : MayTake) (past : List Group) (kinds : List (Option Layout))
+      (before told : List Record) (side : Side) (j : Journal F) (sent : Flight)
+      → (sending_of side j).process ≡ process_of side sent
+      → (sending_of side (behind_records g may_take past kinds before told j)).process
+      ≡ process_of side (flight_in told sent)
+  processes_are may_take past kinds before told side j sent is =
+      records_process may_take past kinds before told side j ∙ (ap (process_in side told) is ∙ by side)
+    where
+      by : (s : Side) → process_in s told (process_of s sent) ≡ process_of s (flight_in told sent)
+      by Nb = refl
+      by Ue = refl
