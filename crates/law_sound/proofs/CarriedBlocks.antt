@@ -67,7 +67,7 @@ use Rattle.law_sound.proofs.Telling.{told_own}
 -- ---- one parcel
 
 -- what comes isn't written
-as_long : (e : FlowEvent) (es : List FlowEvent) → size_in e ≡ [] → next_of (e ∷ es) ≡ next_of es
+pub as_long : (e : FlowEvent) (es : List FlowEvent) → size_in e ≡ [] → next_of (e ∷ es) ≡ next_of es
 as_long e es q =
     ap (λ (ns : List ℕ). length (field_sizes es ++ ns)) q
     ∙ ap (λ (ns : List ℕ). length ns) (append-nil (field_sizes es))

@@ -55,3 +55,8 @@ pub mod EqualBlocks
 pub mod JoiningFails
 pub mod SentProcesses
 pub mod LogEntries
+pub mod OtherRecords
+pub mod BesideActs
+pub mod BesideComing
+pub mod BesideBuilding
+pub mod BesideLives

@@ -98,13 +98,13 @@ heard_ignores rs ps es =
 -- ---- what a block under way carries
 
 -- beside a block, and beside none
-record Own (l : ℕ) (d : Direction) (f g : Flow) (pdus : List (List CarriedPdu)) (k : ℕ) (block : Block) : Type 0 where
-  own : List CarriedPdu
-  there : slice_get pdus k ≡ Some own
-  carries : CarriesAs l d f g block own
+pub record Own (l : ℕ) (d : Direction) (f g : Flow) (pdus : List (List CarriedPdu)) (k : ℕ) (block : Block) : Type 0 where
+  pub own : List CarriedPdu
+  pub there : slice_get pdus k ≡ Some own
+  pub carries : CarriesAs l d f g block own
 
 module _ (l : ℕ) (d : Direction) (f g : Flow) where
-  own_at : (bs : List Block) (pdus : List (List CarriedPdu)) (k : ℕ) (block : Block) → AllCarryAs l d f g bs pdus
+  pub own_at : (bs : List Block) (pdus : List (List CarriedPdu)) (k : ℕ) (block : Block) → AllCarryAs l d f g bs pdus
       → slice_get bs k ≡ Some block → Own l d f g pdus k block
   own_at [] pdus k block h at = let no : None ≡ Some block = at in absurd cc
   own_at (b ∷ bs) [] k block h at = absurd h

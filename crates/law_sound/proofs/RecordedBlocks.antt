@@ -53,7 +53,7 @@ new_records_build kinds direction l octets j o s act pdus done b h held =
 
 -- ---- a block is got
 
-held_at : (l : ℕ) (x : Sending) (bs : List Block) (pdus : List (List CarriedPdu)) (k : ℕ) (block : Block)
+pub held_at : (l : ℕ) (x : Sending) (bs : List Block) (pdus : List (List CarriedPdu)) (k : ℕ) (block : Block)
     (own : List CarriedPdu) → AreHeldAs l x bs pdus → slice_get bs k ≡ Some block → slice_get pdus k ≡ Some own
     → parcels_on l (held_parcels x block.process) ≡ parcels_of l own
 held_at l x [] pdus k block own h at there = let no : None ≡ Some block = at in absurd cc

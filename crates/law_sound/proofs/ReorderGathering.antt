@@ -91,7 +91,7 @@ reorderings_gathered kinds kind more side l e h k here = refl
 
 -- ---- what is told on another channel
 
-abbrev IsElsewhere : ℕ → Told → Type 0
+abbrev pub IsElsewhere : ℕ → Told → Type 0
 IsElsewhere l t = (t.lcid == l) ≡ false
 
 one_elsewhere : (from : Side) (l : ℕ) (t : Told) (h : Histories) → IsElsewhere l t
@@ -110,7 +110,7 @@ one_elsewhere from l t h apart = by t.event
     by (Acked e) = ap (λ (b : Bool). if b then with_event e (h.acked from l) else h.acked from l) at
     by (Unacked e) = refl
 
-all_elsewhere : (from : Side) (l : ℕ) (ts : List Told) (h : Histories) → AllByRecursion (IsElsewhere l) ts
+pub all_elsewhere : (from : Side) (l : ℕ) (ts : List Told) (h : Histories) → AllByRecursion (IsElsewhere l) ts
     → (all_told histories ts h).acked from l ≡ h.acked from l
 all_elsewhere from l [] h apart = refl
 all_elsewhere from l (t ∷ ts) h apart =
@@ -143,7 +143,7 @@ module _ (l : ℕ) (side : Side) (lcid : ℕ) (apart : (lcid == l) ≡ false) wh
   reorder_elsewhere (Some layouts.Tm) e u = (apart, tt)
   reorder_elsewhere None e u = (apart, tt)
 
-event_elsewhere : (kinds : List (Option Layout)) (more : Bool) (side : Side) (l : ℕ) (e : Event)
+pub event_elsewhere : (kinds : List (Option Layout)) (more : Bool) (side : Side) (l : ℕ) (e : Event)
     → is_on l e ≡ false → AllByRecursion (IsElsewhere l) (told_by kinds more side e)
 event_elsewhere kinds more side l (events.Take lcid count len) q =
     taken_elsewhere l side lcid q (slice_index_or kinds lcid None) count len

@@ -19,5 +19,6 @@ pub mod CarriedLaws
 pub mod LoadLaws
 pub mod ReorderingLaws
 pub mod EqualBlocks
+pub mod BesideLaws
 pub mod HeldLaws
 pub mod RecordLaws

@@ -12,7 +12,8 @@ pub use laws::{
     delivered_follows, ends_hear_by_air, ends_hear_calls, ends_send_by_air, ends_write_truly,
     equal_blocks_carry_alike, events_are_gathered, fails_join, held_blocks_stay, lives_go_on,
     logs_tell_calls, logs_tell_flows, logs_tell_ignored, new_blocks_are_loaded,
-    new_pdus_are_gathered, numbers_are_given, records_go_on, reorderings_are_events,
-    reorderings_are_gathered, reports_are_gathered, runs_deliver, runs_tell_flows,
-    same_counts_come, statuses_are_gathered, taken_are_told, true_status_is_gathered,
+    new_pdus_are_gathered, numbers_are_given, records_go_on, records_stay_beside,
+    reorderings_are_events, reorderings_are_gathered, reports_are_gathered, runs_deliver,
+    runs_tell_flows, same_counts_come, statuses_are_gathered, taken_are_told,
+    true_status_is_gathered,
 };
