@@ -20,7 +20,7 @@ use Rattle.law_sound.specs.LogLaws.{entry_told, with_log}
 
 -- ---- events behind a history
 
-goes_then : (es mid now : List FlowEvent) → GoesOnTo es mid → GoesOnTo mid now → GoesOnTo es now
+pub goes_then : (es mid now : List FlowEvent) → GoesOnTo es mid → GoesOnTo mid now → GoesOnTo es now
 goes_then es mid now (xs, p) (ys, q) =
     (ys ++ xs, q ∙ (ap (λ (zs : List FlowEvent). ys ++ zs) p ∙ sym (append_assoc ys xs es)))
 

@@ -60,3 +60,8 @@ pub mod BesideActs
 pub mod BesideComing
 pub mod BesideBuilding
 pub mod BesideLives
+pub mod HearingFails
+pub mod LivedFails
+pub mod MovingFails
+pub mod LivedLimits
+pub mod GroupFails

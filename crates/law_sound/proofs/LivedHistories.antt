@@ -15,7 +15,8 @@ use Rattle.mac_pdu.specs.declared.item.Direction.{Direction}
 use Rattle.rlc_am_rx.specs.State.{State as Receiver}
 use Rattle.rlc_am_tx.specs.Machine.{State as Sender}
 use Rattle.journal_account.specs.Acked.{ignored_in}
-use Rattle.journal_account.specs.FlowEvents.{FlowEvent, ReorderStarted, ReorderExpired}
+use Rattle.journal_account.specs.FlowEvents.{FlowEvent, IsHistory, ReorderStarted, ReorderExpired}
+use Rattle.journal_failure.specs.RightFailure.{AreFailsOf}
 use Rattle.promises.specs.Pdus.{carried}
 use Rattle.law_rlc.specs.AmPair.Flow.{Flow}
 use Rattle.law_bearer.specs.AnyBearer.Calls.{Call as BearerCall}
@@ -49,6 +50,7 @@ use Rattle.law_sound.specs.CallHearing.{HearsCalls, HearCallsByAir}
 use Rattle.law_sound.specs.CarriedLaws.{with_read, with_data, with_all_data, BlocksBring, BringByAir}
 use Rattle.law_sound.specs.HearingLaws.{with_reordering, arrivals}
 use Rattle.law_sound.specs.IgnoredLaws.{ComesNone, told_ignored}
+use Rattle.law_sound.specs.LogLaws.{fails_in}
 use Rattle.law_sound.specs.LivedHistories.{gone_on, GoesOnBy, AreBeside, GoOn, EndsGoOnByAir, AreLived}
 use Rattle.law_sound.specs.LivedHistories.{NewBlocksAreTrue, LivesWriteTruly, LivesGoOver, comes_in}
 use Rattle.law_sound.specs.LivedHistories.{LivesBeginBeside, MovesBeginBeside, LiveOn, LivesGoOnBeside}
@@ -58,6 +60,7 @@ use Rattle.law_sound.proofs.AirSending.{ends_send_by_air}
 use Rattle.law_sound.proofs.BlockStatuses.{ends_write_truly}
 use Rattle.law_sound.proofs.CallHearing.{ends_hear_calls}
 use Rattle.law_sound.proofs.CarriedBlocks.{carried_pdus_come}
+use Rattle.law_sound.proofs.HearingFails.{heard_only, heard_fail_none}
 use Rattle.law_sound.proofs.IgnoredLogs.{calls_none}
 
 -- ---- logs of the end that hears
@@ -137,9 +140,10 @@ module _ (l : ℕ) (side oside : Side) (dir : heard_by oside ≡ sent_by side) (
 
   -- nothing comes
   quiet : (sent : List BearerEntry) (tx : Sender) (rx : Receiver) → AreEndsOf most (gone_on b sent [] [] es) tx rx
+      → AreFailsOf most es (gone_on b sent [] [] es) (fails_in (parted sent))
       → ignored_in (gone_on b sent [] [] es) ≡ ignored_in es + told_ignored (parted sent)
       → GoesOnBy most [] es b sent [] tx rx
-  quiet sent tx rx now same = record { come = refl; ends = now; ignored = same }
+  quiet sent tx rx now told same = record { come = refl; ends = now; fails = told; ignored = same }
 
   -- the sender's end acts
   sends : (z : End) (sent : List BearerEntry) (behind : IsFlowOn l sending receiving z to.end)
@@ -148,7 +152,7 @@ module _ (l : ℕ) (side oside : Side) (dir : heard_by oside ≡ sent_by side) (
   sends z sent behind h =
       quiet sent behind.from_bearer.tx behind.to_bearer.rx
       (subst (λ (x : State). AreEndsOf most (gone_on b sent [] [] es) behind.from_bearer.tx x.rx)
-      (same_bearer _ d behind.to_bearer out.to_is behind.to_is) h.ends) h.ignored
+      (same_bearer _ d behind.to_bearer out.to_is behind.to_is) h.ends) h.fails h.ignored
 
   -- a call of the receiver's end
   sender_same : (z : End) (behind : IsFlowOn l sending receiving from.end z) → behind.from_bearer ≡ b
@@ -170,6 +174,11 @@ module _ (l : ℕ) (side oside : Side) (dir : heard_by oside ≡ sent_by side) (
         behind.to_bearer.rx) (sym (sender_same z behind))
         (subst (λ (told : List Event). AreEndsOf most (with_reordering (reordering_in told) (with_all_data pdus es))
         b.tx behind.to_bearer.rx) (sym (told_is cs)) now);
+    fails =
+        let rs = reordering_in (told_in (bearer_logs l (Am d) (cs ++ []))) in
+        heard_fail_none most es (with_reordering rs (with_all_data pdus es)) (heard_only rs pdus es)
+        (subst (λ (told : List Event). IsHistory (with_reordering (reordering_in told) (with_all_data pdus es)))
+        (sym (told_is cs)) now.follows.history);
     ignored = heard_ignores (reordering_in (told_in (bearer_logs l (Am d) (cs ++ [])))) pdus es;
   }
 
@@ -178,7 +187,8 @@ module _ (l : ℕ) (side oside : Side) (dir : heard_by oside ≡ sent_by side) (
   rests z behind same =
       quiet [] behind.from_bearer.tx behind.to_bearer.rx
       (subst (λ (x : State). AreEndsOf most es x.tx behind.to_bearer.rx) (sym (sender_same z behind))
-      (subst (λ (x : State). AreEndsOf most es b.tx x.rx) (sym same) ends)) (omega arith)
+      (subst (λ (x : State). AreEndsOf most es b.tx x.rx) (sym same) ends))
+      (heard_fail_none most es es (heard_only [] [] es) ends.follows.history) (omega arith)
 
   module _ (pdus : List (List CarriedPdu)) (g : Flow)
       (carry : AllCarryAs l (sent_by side) (flow_on l sending receiving from.end to.end out) g from.blocks pdus)

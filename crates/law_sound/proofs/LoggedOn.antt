@@ -344,7 +344,7 @@ come_fails : (pdus : List (List ℕ)) (log : List BearerEntry) → fails_in (com
 come_fails [] log = refl
 come_fails (pdu ∷ pdus) log = come_fails pdus log
 
-told_fails : (log : List BearerEntry) (pdus : List (List ℕ))
+pub told_fails : (log : List BearerEntry) (pdus : List (List ℕ))
     → fails_in (telling (told_in log) ++ writing pdus) ≡ fails_in log
 told_fails [] pdus = written_fails pdus
 told_fails (Tells e ∷ log) pdus = ap (λ (sns : List ℕ). fails_at (Tells e) ++ sns) (told_fails log pdus)

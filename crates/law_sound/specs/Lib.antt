@@ -14,6 +14,9 @@ pub mod CallHearing
 pub mod BlockStatuses
 pub mod IgnoredLaws
 pub mod LivedHistories
+pub mod LivedFails
+pub mod LivedLimits
+pub mod GroupFails
 pub mod NumberLaws
 pub mod CarriedLaws
 pub mod LoadLaws

@@ -17,6 +17,7 @@ use Rattle.rlc_am_rx.specs.State.{State as Receiver}
 use Rattle.rlc_am_tx.specs.Machine.{State as Sender}
 use Rattle.journal_account.specs.Acked.{ignored_in}
 use Rattle.journal_account.specs.FlowEvents.{FlowEvent}
+use Rattle.journal_failure.specs.RightFailure.{AreFailsOf}
 use Rattle.law_deliver.specs.AmChannel.Lives.{AirStep, InLife, Moves, lives_on, lives, AreLiving}
 use Rattle.law_deliver.specs.AmChannel.Lives.{calls_at, end_at}
 use Rattle.promises.specs.Pdus.{carried}
@@ -35,7 +36,7 @@ use Rattle.law_sound.specs.BlockStatuses.{AreReportsTrue}
 use Rattle.law_sound.specs.CarriedLaws.{with_all_data}
 use Rattle.law_sound.specs.HearingLaws.{with_reordering}
 use Rattle.law_sound.specs.IgnoredLaws.{told_ignored}
-use Rattle.law_sound.specs.LogLaws.{with_log}
+use Rattle.law_sound.specs.LogLaws.{with_log, fails_in}
 
 -- ---- a step of a life
 
@@ -56,12 +57,13 @@ abbrev pub gone_on : State → List BearerEntry → List BearerEntry → List Ca
 gone_on b sent heard pdus es = with_reordering (reordering_in (told_in heard))
     (with_all_data pdus (with_log b.pdcp.kind (has_more b.pdcp) (parted sent) es))
 
--- just these PDUs come; and the sender's bearer tells just so many STATUS as ignored as the history
--- ignores
+-- just these PDUs come; the SNs of the `fail` records of the sender's bearer are right by the
+-- history, and it tells just so many STATUS as ignored as the history ignores
 pub record GoesOnBy (most : ℕ) (pdus : List CarriedPdu) (es : List FlowEvent) (b : State)
     (sent heard : List BearerEntry) (tx : Sender) (rx : Receiver) : Type 0 where
   pub come : come_in heard ≡ map pdu_octets pdus
   pub ends : AreEndsOf most (gone_on b sent heard pdus es) tx rx
+  pub fails : AreFailsOf most es (gone_on b sent heard pdus es) (fails_in (parted sent))
   pub ignored : ignored_in (gone_on b sent heard pdus es)
       ≡ ignored_in es + told_ignored (parted sent)
 

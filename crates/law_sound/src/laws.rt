@@ -14,6 +14,10 @@ ghost use Rattle.law_sound.specs.BlockStatuses.{EndsWriteTruly, ReportsAreTrue};
 ghost use Rattle.law_sound.specs.LivedHistories.{EndsGoOnByAir, LivesBeginBeside};
 ghost use Rattle.law_sound.specs.LivedHistories.{MovesBeginBeside, LivesGoOnBeside};
 ghost use Rattle.law_sound.specs.LivedHistories.{LivesGoOver, LivesWriteTruly};
+ghost use Rattle.law_sound.specs.LivedFails.{LivesComeNew, LivesFailRightly, MovesFailNone};
+ghost use Rattle.law_sound.specs.LivedFails.{RecordsTellRightly};
+ghost use Rattle.law_sound.specs.LivedLimits.{LimitsBegin, LimitsStay};
+ghost use Rattle.law_sound.specs.GroupFails.{GroupsFailRightly, HandoversFailRightly};
 ghost use Rattle.law_sound.specs.IgnoredLaws.{LogsTellIgnored, NoBlockIsIgnored};
 ghost use Rattle.law_sound.specs.GatherLaws.{EventsAreGathered, DataIsGathered};
 ghost use Rattle.law_sound.specs.GatherLaws.{TrueStatusIsGathered};
@@ -130,9 +134,10 @@ pub fn ends_write_truly()
 /// So along the lives of two ends over the air both acknowledged bearers of a channel stay beside a
 /// history of each of its flows: it begins without events, with each life, and goes on in each step
 /// by what the sender's bearer logs, by the data PDUs of a block that comes, with the numbers that
-/// they were written with, and by what the receiver's bearer tells of t-Reordering. The sender's
-/// tells just so many STATUS as ignored as the history ignores, and the STATUS PDUs in a new block
-/// are gathered as true of it.
+/// they were written with, and by what the receiver's bearer tells of t-Reordering. In each step
+/// the SNs of the `fail` records of the sender's bearer are right by the history, and it tells just
+/// so many STATUS as ignored as the history ignores; the STATUS PDUs in a new block are gathered as
+/// true of it.
 pub fn lives_go_on()
     ensures steps { EndsGoOnByAir }
     ensures begins { LivesBeginBeside }
@@ -256,6 +261,29 @@ pub fn fails_join()
     ensures logs { LogsGoOn }
     ensures receivers { ReceiversFailNone }
     ensures stretches { FailsJoin }
+{}
+
+/// So the SNs that an end tells of the channel in any steps of one life are right by the history of
+/// the flow before these steps and the one behind them, as the checker of `fail` records asks it of
+/// a group; and so are those in the records that tell of these steps. As a life ends none is told.
+/// The limit that this history is asked by is maxRetxThreshold of the bearer's configuration, in
+/// the first life and through all others.
+pub fn lives_fail_rightly()
+    ensures ends { LivesComeNew }
+    ensures lives { LivesFailRightly }
+    ensures moves { MovesFailNone }
+    ensures records { RecordsTellRightly }
+    ensures first { LimitsBegin }
+    ensures limits { LimitsStay }
+{}
+
+/// So the `fail` records of a group are right on a channel with an acknowledged bearer, as their
+/// checker asks it, where its records tell of steps of one life, or of a handover and steps behind
+/// it, and the histories of both flows, behind its line and behind its records, are those that the
+/// journal tells.
+pub fn groups_fail_rightly()
+    ensures lives { GroupsFailRightly }
+    ensures handovers { HandoversFailRightly }
 {}
 
 /// So, behind the record of a new block, its process holds what it carries, on an acknowledged

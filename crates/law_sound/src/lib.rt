@@ -10,10 +10,10 @@ mod laws;
 pub use laws::{
     bearers_hear, bearers_write, blocks_are_heard, carried_pdus_come, data_is_gathered,
     delivered_follows, ends_hear_by_air, ends_hear_calls, ends_send_by_air, ends_write_truly,
-    equal_blocks_carry_alike, events_are_gathered, fails_join, held_blocks_stay, lives_go_on,
-    logs_tell_calls, logs_tell_flows, logs_tell_ignored, new_blocks_are_loaded,
-    new_pdus_are_gathered, numbers_are_given, records_go_on, records_stay_beside,
-    reorderings_are_events, reorderings_are_gathered, reports_are_gathered, runs_deliver,
-    runs_tell_flows, same_counts_come, statuses_are_gathered, taken_are_told,
-    true_status_is_gathered,
+    equal_blocks_carry_alike, events_are_gathered, fails_join, groups_fail_rightly,
+    held_blocks_stay, lives_fail_rightly, lives_go_on, logs_tell_calls, logs_tell_flows,
+    logs_tell_ignored, new_blocks_are_loaded, new_pdus_are_gathered, numbers_are_given,
+    records_go_on, records_stay_beside, reorderings_are_events, reorderings_are_gathered,
+    reports_are_gathered, runs_deliver, runs_tell_flows, same_counts_come, statuses_are_gathered,
+    taken_are_told, true_status_is_gathered,
 };
