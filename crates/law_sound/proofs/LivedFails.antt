@@ -36,9 +36,10 @@ use Rattle.law_deliver.proofs.AmFlow.Ups.{Stands, stands, stands_more, over_tell
 use Rattle.law_run.proofs.AnyCalls.Going.{over_on}
 use Rattle.law_run.proofs.ChannelLogs.{told_logs}
 use Rattle.law_run.specs.TwoEnds.ChannelLog.{told_in, parted}
+use Rattle.law_run.specs.TwoEnds.Staying.{AreInLife}
 use Rattle.law_run.specs.TwoEnds.SenderLog.{BearerEntry, Tells, telling, bearer_logs}
 use Rattle.law_sound.specs.FailLaws.{GoesOnTo}
-use Rattle.law_sound.specs.LivedFails.{HasComeNew, IsInLife, sns_in, LivesFailRightly, RecordsTellRightly}
+use Rattle.law_sound.specs.LivedFails.{HasComeNew, sns_in, LivesFailRightly, RecordsTellRightly}
 use Rattle.law_sound.specs.LivedHistories.{gone_on, logged_in, GoesOnBy, AreLived, Moment, GoOver}
 use Rattle.law_sound.specs.LogLaws.{with_log, fails_at, fails_in}
 use Rattle.law_sound.proofs.HearingFails.{heard_only, heard_fail_none}
@@ -128,7 +129,7 @@ step_fails side l a s g h =
 
 -- ---- from one step to the next
 
-pub sns_then : (l : ℕ) (side : Side) (x : AirStep) (xs : List AirStep) (a : Air)
+sns_then : (l : ℕ) (side : Side) (x : AirStep) (xs : List AirStep) (a : Air)
     → sns_in l side (x ∷ xs) a
     ≡ fails_on l (told_over (calls_at side a x) (end_at side a)) ++ sns_in l side xs (lives_on a x)
 sns_then l side x xs a =
@@ -203,7 +204,7 @@ record AreStretches (l : ℕ) (nb ue : State) (xs : List AirStep) (a : Air) (m l
   up : Stretch ue.tx_config.max_retx m.up last.up (sns_in l Ue xs a)
 
 are_told : (l : ℕ) (xs : List AirStep) (a : Air) (m last : Moment) → Stands Nb l a.nb.end → Stands Ue l a.ue.end
-    → AreLiving l a xs → AllByRecursion IsInLife xs → (h : AreLived l a m.pdus m.down m.up) → GoOver l xs a m last
+    → AreLiving l a xs → AreInLife xs → (h : AreLived l a m.pdus m.down m.up) → GoOver l xs a m last
     → AreStretches l h.nb_bearer h.ue_bearer xs a m last
 are_told l [] a m last nb ue living life h over =
     subst (λ (z : Moment). AreStretches l h.nb_bearer h.ue_bearer [] a m z) over
@@ -214,7 +215,7 @@ are_told l [] a m last nb ue living life h over =
 are_told l (InLife s ∷ xs) a m last nb ue living life h (k, over) =
     let o = lives_go_on_beside l a s m.pdus m.down m.up k living.0 in
     let rest = are_told l xs (happens a s) _ last (step_stands Nb l a s living.0 nb)
-    (step_stands Ue l a s living.0 ue) living.1 life.1 o.lived over in
+    (step_stands Ue l a s living.0 ue) living.1 life o.lived over in
     let first = h.air.by_air.flows in
     let now = k.air.by_air.flows in
     let next = o.lived.air.by_air.flows in
@@ -240,7 +241,7 @@ are_told l (InLife s ∷ xs) a m last nb ue living life h (k, over) =
           next.up.from_is o.behind.up.from_is o.lived.beside.by_ue.follows.most_is
           o.go_on.by_ue.ends.follows.most_is) rest.up));
     }
-are_told l (Moves keys ∷ xs) a m last nb ue living life h over = absurd life.0
+are_told l (Moves keys ∷ xs) a m last nb ue living life h over = absurd life
 
 -- ---- the law
 

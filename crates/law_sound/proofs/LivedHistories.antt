@@ -101,7 +101,8 @@ heard_ignores rs ps es =
 -- ---- what a block under way carries
 
 -- beside a block, and beside none
-pub record Own (l : ℕ) (d : Direction) (f g : Flow) (pdus : List (List CarriedPdu)) (k : ℕ) (block : Block) : Type 0 where
+pub record Own (l : ℕ) (d : Direction) (f g : Flow) (pdus : List (List CarriedPdu)) (k : ℕ)
+    (block : Block) : Type 0 where
   pub own : List CarriedPdu
   pub there : slice_get pdus k ≡ Some own
   pub carries : CarriesAs l d f g block own

@@ -1,5 +1,5 @@
 -- As a life of an acknowledged bearer ends nothing fails, and the next one begins with one bearer of the channel.
-use Rattle.std.proofs.Common.{◌≡◌, ℕ, Bool, true, false, List, [], ◌∷◌, ◌++◌, map, append-nil, refl, ap, sym, subst}
+use Rattle.std.proofs.Common.{◌≡◌, ℕ, Bool, true, false, List, [], ◌∷◌, ◌++◌, map, refl, ap, sym, subst}
 use Rattle.std.proofs.Common.{◌∙◌, inl, inr}
 use Rattle.std.specs.List.{AllByRecursion}
 use Rattle.bearer.specs.Acknowledged.Lives.{Ending, hears_last, ends_with, stopping as am_stopping}
@@ -19,8 +19,8 @@ use Rattle.promises.specs.Events.{fails_on}
 use Rattle.prioritise.proofs.ChannelLemmas.{both_false}
 use Rattle.law_node.specs.Calls.{Call, Move, IsGiven as IsGivenCall, after, run_end}
 use Rattle.law_node.specs.Holding.{flow}
-use Rattle.law_node.specs.Telling.{told_of, told_over}
-use Rattle.law_deliver.specs.AmChannel.Lives.{AirStep, Moves, lives_on, lives, AreLiving, all_calls, end_at}
+use Rattle.law_node.specs.Telling.{told_of}
+use Rattle.law_deliver.specs.AmChannel.Lives.{AirStep, lives, AreLiving, all_calls, end_at}
 use Rattle.law_deliver.specs.AmFlow.Air.{Air}
 use Rattle.law_deliver.specs.AmFlow.Ups.{IsNew, AreNew}
 use Rattle.law_deliver.proofs.AmChannel.Ends.{IsCall, are_calls, goes_by_calls}
@@ -28,9 +28,9 @@ use Rattle.law_deliver.proofs.AmFlow.Stations.{given_on, run_on}
 use Rattle.law_deliver.proofs.AmFlow.Ups.{Stands, the_end}
 use Rattle.law_run.proofs.Still.{tell_flow, heard_still}
 use Rattle.law_run.specs.TwoEnds.SenderLog.{Tells, telling, is_of_flow}
-use Rattle.law_sound.specs.LivedFails.{HasComeNew, LivesComeNew, sns_in, MovesFailNone}
+use Rattle.law_sound.specs.LivedFails.{HasComeNew, LivesComeNew, MovesFailNone}
 use Rattle.law_sound.specs.LogLaws.{fails_at, fails_in}
-use Rattle.law_sound.proofs.LivedFails.{events_fail, stands_new, lived_there, sns_then}
+use Rattle.law_sound.proofs.LivedFails.{events_fail, stands_new, lived_there}
 
 -- ---- what a bearer tells as its life ends
 
@@ -70,30 +70,20 @@ unfolding stopping am_stopping
 stops_none b = ends_none (is_am b.pdcp.kind) _ (record { pdcp = b.pdcp; events = [] }) refl
 
 move_none : (side : Side) (l : ℕ) (e : End) (b : State) (keys : _) → Stands side l e → flow l e ≡ Am b
-    → fails_on l (told_over (Move keys ∷ []) e) ≡ []
+    → fails_on l (told_of e (Move keys)) ≡ []
 move_none side l e b keys s is =
-    ap (fails_on l) (append-nil (told_of e (Move keys)))
-    ∙ (events_fail l (told_of e (Move keys))
+    events_fail l (told_of e (Move keys))
     ∙ (ap (λ (told : List Event). fails_in (telling told))
-    ((the_end side l e keys s).told_is ∙ ap (λ (f : Flow). stopping f) is) ∙ stops_none b))
-
-moved_on : (l : ℕ) (side : Side) (keys : _) (xs : List AirStep) (a : Air) (b : State) → Stands side l (end_at side a)
-    → flow l (end_at side a) ≡ Am b → sns_in l side (Moves keys ∷ xs) a ≡ sns_in l side xs (lives_on a (Moves keys))
-moved_on l Nb keys xs a b s is =
-    sns_then l Nb (Moves keys) xs a
-    ∙ ap (λ (sns : List ℕ). sns ++ sns_in l Nb xs (lives_on a (Moves keys))) (move_none Nb l a.nb.end b keys s is)
-moved_on l Ue keys xs a b s is =
-    sns_then l Ue (Moves keys) xs a
-    ∙ ap (λ (sns : List ℕ). sns ++ sns_in l Ue xs (lives_on a (Moves keys))) (move_none Ue l a.ue.end b keys s is)
+    ((the_end side l e keys s).told_is ∙ ap (λ (f : Flow). stopping f) is) ∙ stops_none b)
 
 pub moves_fail_none : MovesFailNone
-moves_fail_none l Nb keys xs a m new h =
+moves_fail_none l Nb keys a m new h =
     let flows = h.air.by_air.flows in
-    moved_on l Nb keys xs a flows.down.from_bearer (stands_new Nb l a.nb.end new.nb (lived_there l a m h).nb)
+    move_none Nb l a.nb.end flows.down.from_bearer keys (stands_new Nb l a.nb.end new.nb (lived_there l a m h).nb)
     flows.down.from_is
-moves_fail_none l Ue keys xs a m new h =
+moves_fail_none l Ue keys a m new h =
     let flows = h.air.by_air.flows in
-    moved_on l Ue keys xs a flows.up.from_bearer (stands_new Ue l a.ue.end new.ue (lived_there l a m h).ue)
+    move_none Ue l a.ue.end flows.up.from_bearer keys (stands_new Ue l a.ue.end new.ue (lived_there l a m h).ue)
     flows.up.from_is
 
 -- ---- a bearer of the channel is added only if there is none

@@ -235,7 +235,8 @@ handed_agrees first l from (Passes up_grant up down_grant down) told es leaving 
 handed_agrees first l from (Drains grant) told es leaving subs h = no_subs first es leaving subs h
 handed_agrees first l from Rests told es leaving subs h = no_subs first es leaving subs h
 
-events_both : (from : Side) (xs ys : List Record) → events_of from (xs ++ ys) ≡ events_of from xs ++ events_of from ys
+pub events_both : (from : Side) (xs ys : List Record)
+    → events_of from (xs ++ ys) ≡ events_of from xs ++ events_of from ys
 events_both from [] ys = refl
 events_both from (one ∷ xs) ys =
     ap (λ (es : List Event). event_of from one ++ es) (events_both from xs ys)

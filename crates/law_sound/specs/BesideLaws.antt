@@ -2,7 +2,8 @@
 -- history of each flow, and what the HARQ processes hold, are those of the moment, and the records
 -- of a step take them to the moment behind it (docs/formats/JOURNAL.md; TS 36.321 5.3.2, 5.4.2, TS
 -- 36.322 5.1.3, 5.2).
-use Rattle.std.specs.Prelude.{◌≡◌, ℕ, ◌%◌, ◌==◌, ◌&&◌, if◌then◌else◌, Bool, true, false, List, [], ◌∷◌, map, length, Option}
+use Rattle.std.specs.Prelude.{◌≡◌, ℕ, ◌%◌, ◌==◌, ◌&&◌, if◌then◌else◌, Bool, true, false, List}
+use Rattle.std.specs.Prelude.{[], ◌∷◌, map, length, Option}
 use Rattle.std.specs.Prelude.{Some, None, slice_get, slice_index_or}
 use Rattle.std.specs.List.{AllByRecursion, filter, flat_map}
 use Rattle.air_record.specs.declared.line.Line.{Line}

@@ -1,7 +1,6 @@
 -- The `fail` records of a group are right where the histories of both flows of the channel, behind
 -- its line and behind its records, are those that a journal tells (TS 36.322 5.2.1).
-use Rattle.std.specs.Prelude.{◌≡◌, ℕ, true, List, [], ◌∷◌, Some}
-use Rattle.std.specs.List.{AllByRecursion}
+use Rattle.std.specs.Prelude.{◌≡◌, ℕ, true, List, [], ◌∷◌, ◌++◌, Some}
 use Rattle.air_text.specs.Groups.{Group}
 use Rattle.bearer_types.specs.declared.config.BearerConfig.{BearerConfig}
 use Rattle.l2_types.specs.declared.side.Side.{Side}
@@ -10,11 +9,12 @@ use Rattle.journal_failure.specs.RightFailure.{only_line, life_of, AreFails}
 use Rattle.journal_flows.specs.Accounts.{is_acked_kind}
 use Rattle.journal_flows.specs.Gathering.{MayTake}
 use Rattle.journal_flows.specs.Laws.{bearer_on}
-use Rattle.law_deliver.specs.AmChannel.Lives.{AirStep, Moves, lives_on}
+use Rattle.law_deliver.specs.AmChannel.Lives.{Moves, lives_on}
 use Rattle.law_deliver.specs.AmFlow.Air.{Air}
 use Rattle.law_deliver.specs.AmFlow.Carrying.{carries_none}
 use Rattle.law_run.specs.TwoEnds.Going.{GoesByAir}
-use Rattle.law_sound.specs.LivedFails.{HaveComeNew, IsInLife}
+use Rattle.law_run.specs.TwoEnds.Staying.{AreInLife, MovesOn}
+use Rattle.law_sound.specs.LivedFails.{HaveComeNew}
 use Rattle.law_sound.specs.LivedHistories.{AreLived, Moment, GoOver}
 use Rattle.law_sound.specs.LivedLimits.{AreLimits}
 
@@ -36,7 +36,7 @@ abbrev pub GroupsFailRightly : Type 0
 GroupsFailRightly = (may_take : MayTake) (now : Group) (past : List Group) (l : ℕ)
     (config : BearerConfig) (submitted : _) (said : _) (set : _) (k : _) (a : Air)
     (first last : Moment) (by : GoesByAir l now.events submitted said set k a) → HaveComeNew l a
-    → AllByRecursion IsInLife by.steps → (h : AreLived l a first.pdus first.down first.up)
+    → AreInLife by.steps → (h : AreLived l a first.pdus first.down first.up)
     → GoOver l by.steps a first last → AreLimits config.tx.max_retx h.nb_bearer h.ue_bearer
     → IsAcked l now past config → AreToldOf may_take now past l first last
     → (side : Side) → AreFails may_take now past side l
@@ -47,12 +47,10 @@ begun = record { pdus = carries_none; down = []; up = [] }
 
 abbrev pub HandoversFailRightly : Type 0
 HandoversFailRightly = (may_take : MayTake) (now : Group) (past : List Group) (l : ℕ)
-    (config : BearerConfig) (submitted : _) (said : _) (set : _) (k : _) (a : Air)
-    (before last : Moment) (keys : _) (xs : List AirStep)
-    → (by : GoesByAir l now.events submitted said set k a) → by.steps ≡ Moves keys ∷ xs
-    → HaveComeNew l a → AllByRecursion IsInLife xs
+    (config : BearerConfig) (keys : _) (k : _) (a : Air) (before last : Moment)
+    (moves : MovesOn l keys k a) → now.events ≡ moves.leaving ++ moves.behind → HaveComeNew l a
     → (h : AreLived l a before.pdus before.down before.up)
-    → GoOver l xs (lives_on a (Moves keys)) begun last
+    → GoOver l moves.by.steps (lives_on a (Moves keys)) begun last
     → AreLimits config.tx.max_retx h.nb_bearer h.ue_bearer
     → IsAcked l now past config → AreToldOf may_take now past l begun last
     → (side : Side) → AreFails may_take now past side l
