@@ -177,8 +177,9 @@ blocks_come kinds l Ue a k c down up j xs block h at sent r g =
           ∙ (ap (with_log b.pdcp.kind (has_more b.pdcp) (telling (told_in (logged_in l Ue a (AtUe (Comes k)) b))))
           (come.back ∙ ap (with_all_statuses o.own) g.up_is)
           ∙ log_come b.pdcp.kind (has_more b.pdcp) now.down.to_bearer.tx.window
-          (logged_in l Ue a (AtUe (Comes k)) b) (told_in (logged_in l Ue a (AtUe (Comes k)) b))
-          o.own up log refl r.writes next_up
+          (logged_in l Ue a (AtUe (Comes k)) b) (told_in (logged_in l Ue a (AtUe (Comes k)) b)) o.own up log
+          refl r.writes
+          next_up
           (data_read f back block.age o.own sound_f o.carries.under_way) bring.statuses);
       by_nb = holds_same l j.nb i.nb a.nb.blocks c.nb t.nb g.by_nb;
       by_ue = holds_same l j.ue i.ue (does a.nb a.ue (Comes k)).blocks c.ue t.ue (record {
@@ -216,8 +217,9 @@ blocks_come kinds l Nb a k c down up j xs block h at sent r g =
           ∙ (ap (with_log b.pdcp.kind (has_more b.pdcp) (telling (told_in (logged_in l Nb a (AtNb (Comes k)) b))))
           (come.back ∙ ap (with_all_statuses o.own) g.down_is)
           ∙ log_come b.pdcp.kind (has_more b.pdcp) now.up.to_bearer.tx.window
-          (logged_in l Nb a (AtNb (Comes k)) b) (told_in (logged_in l Nb a (AtNb (Comes k)) b))
-          o.own down log refl r.writes next_down
+          (logged_in l Nb a (AtNb (Comes k)) b) (told_in (logged_in l Nb a (AtNb (Comes k)) b)) o.own down log
+          refl r.writes
+          next_down
           (data_read f back block.age o.own sound_f o.carries.under_way) bring.statuses);
       up_is = t.back
           ∙ (ap (with_reordering (reordering_in (told_in (logged_in l Nb a (AtNb (Comes k)) b))))

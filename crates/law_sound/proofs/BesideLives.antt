@@ -1,10 +1,9 @@
 -- What is gathered as lives begin, and by lines.
-use Rattle.std.proofs.Common.{◌≡◌, ℕ, ◌==◌, Bool, true, if◌then◌else◌, List, [], refl, ap, ◌∙◌}
+use Rattle.std.proofs.Common.{◌≡◌, ◌==◌, Bool, true, if◌then◌else◌, [], refl, ap, ◌∙◌}
 use Rattle.std.proofs.lemmas.Bool.{eq-eqb}
-use Rattle.air_record.specs.declared.line.Line.{Line}
 use Rattle.air_record.specs.declared.line.Line.TheVariants as lines
 use Rattle.l2_types.specs.declared.side.Side.TheVariants.{Nb, Ue}
-use Rattle.journal_lives.specs.LifeEvents.{LifeEvent, running}
+use Rattle.journal_lives.specs.LifeEvents.{running}
 use Rattle.law_sound.specs.BesideLaws.{BearersBeginGathered, MovesAreGathered, OtherLinesLeave}
 
 pub bearers_begin : BearersBeginGathered

@@ -57,10 +57,8 @@ pub handovers_fail_rightly : HandoversFailRightly
 handovers_fail_rightly may_take now past l config keys k a before last moves events new h over limits is told =
     let n = moves_begin_beside l a before.pdus before.down before.up keys h in
     let begin = lives_come_new l (Moves keys ∷ []) a new (tt, tt) in
-    let are =
-    records_tell_rightly l moves.behind _ _ _ _ (lives_on a (Moves keys)) begun last moves.by begin
-    moves.in_life
-    n over in
+    let are = records_tell_rightly l moves.behind _ _ _ _ (lives_on a (Moves keys)) begun last moves.by begin
+    moves.in_life n over in
     let most = limits_stay config.tx.max_retx l (Moves keys ∷ []) a before begun new (tt, tt) h n limits in
     let nb = told_behind Nb in
     let ue = told_behind Ue in

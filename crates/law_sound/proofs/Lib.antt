@@ -65,3 +65,4 @@ pub mod LivedFails
 pub mod MovingFails
 pub mod LivedLimits
 pub mod GroupFails
+pub mod BesideSteps

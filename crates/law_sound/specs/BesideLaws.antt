@@ -3,8 +3,7 @@
 -- of a step take them to the moment behind it (docs/formats/JOURNAL.md; TS 36.321 5.3.2, 5.4.2, TS
 -- 36.322 5.1.3, 5.2).
 use Rattle.std.specs.Prelude.{◌≡◌, ℕ, ◌%◌, ◌==◌, ◌&&◌, if◌then◌else◌, Bool, true, false, List}
-use Rattle.std.specs.Prelude.{[], ◌∷◌, map, length, Option}
-use Rattle.std.specs.Prelude.{Some, None, slice_get, slice_index_or}
+use Rattle.std.specs.Prelude.{[], ◌∷◌, map, length, Option, Some, None, slice_get, slice_index_or}
 use Rattle.std.specs.List.{AllByRecursion, filter, flat_map}
 use Rattle.air_record.specs.declared.line.Line.{Line}
 use Rattle.air_record.specs.declared.line.Line.TheVariants as lines
@@ -34,8 +33,8 @@ use Rattle.journal_lives.specs.LifeEvents.{running}
 use Rattle.journal_flows.specs.FlowsTold.{Histories, histories}
 use Rattle.journal_flows.specs.Gathering.{Journal, Sending, sending_of, behind_record}
 use Rattle.journal_flows.specs.Gathering.{behind_new, behind_landing, behind_line, behind_end}
-use Rattle.law_deliver.specs.AmFlow.Air.{Block, Station, Air, Act, Comes, Step, AtNb, AtUe, Passes}
 use Rattle.law_deliver.specs.AmChannel.Lives.{Moves, lives_on}
+use Rattle.law_deliver.specs.AmFlow.Air.{Block, Station, Air, Act, Comes, Step, AtNb, AtUe, Passes}
 use Rattle.law_deliver.specs.AmFlow.Air.{happens, outset, IsDone}
 use Rattle.law_deliver.specs.AmFlow.Carrying.{CarriedPdu, Carried, Builds, behind_step}
 use Rattle.law_deliver.specs.AmFlow.Carrying.{carries_none}
@@ -76,7 +75,7 @@ tells event = false
 abbrev pub tells_flow : ℕ → Event → Bool
 tells_flow l event = tells event && is_on l event
 
--- nor is a new block sent, or one got
+-- it tells of none, and no new block is sent, nor one got
 abbrev pub LeavesFlows : ℕ → Record → Type 0
 LeavesFlows l (records.Of side event) = tells_flow l event ≡ false
 LeavesFlows l (records.Block direction process true rv octets) = ⊥

@@ -23,5 +23,6 @@ pub mod LoadLaws
 pub mod ReorderingLaws
 pub mod EqualBlocks
 pub mod BesideLaws
+pub mod BesideSteps
 pub mod HeldLaws
 pub mod RecordLaws

@@ -11,8 +11,7 @@ use Rattle.promises.specs.Events.{fails_on}
 use Rattle.promises.specs.Records.{events_of}
 use Rattle.law_node.specs.Calls.{Move}
 use Rattle.law_node.specs.Telling.{told_of, told_over}
-use Rattle.law_deliver.specs.AmChannel.Lives.{AirStep, lives, AreLiving}
-use Rattle.law_deliver.specs.AmChannel.Lives.{all_calls, end_at}
+use Rattle.law_deliver.specs.AmChannel.Lives.{AirStep, lives, AreLiving, all_calls, end_at}
 use Rattle.law_deliver.specs.AmFlow.Air.{Air, HasCome}
 use Rattle.law_deliver.specs.AmFlow.Ups.{AreNew}
 use Rattle.law_run.specs.TwoEnds.Going.{GoesByAir}

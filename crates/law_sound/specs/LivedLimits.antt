@@ -1,5 +1,5 @@
 -- The limit of retransmissions of a channel's acknowledged bearers is that of their configuration,
--- through all lives (TS 36.322 5.2.1, 7.3).
+-- through all lives (TS 36.322 5.2.1, 7.4).
 use Rattle.std.specs.Prelude.{◌≡◌, ℕ, List}
 use Rattle.bearer.specs.Acknowledged.State.{State}
 use Rattle.bearer_types.specs.declared.config.BearerConfig.{BearerConfig}

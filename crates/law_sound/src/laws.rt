@@ -32,6 +32,7 @@ ghost use Rattle.law_sound.specs.BesideLaws.{OtherRecordsLeave, ActsAreGathered,
 ghost use Rattle.law_sound.specs.BesideLaws.{BlocksThatComeAreGathered, NewBlocksAreGathered};
 ghost use Rattle.law_sound.specs.BesideLaws.{BearersBeginGathered, MovesAreGathered};
 ghost use Rattle.law_sound.specs.BesideLaws.{OtherLinesLeave};
+ghost use Rattle.law_sound.specs.BesideSteps.{StepsAreGathered};
 ghost use Rattle.law_sound.specs.NumberLaws.{NumbersAreGiven, NewPdusAreGathered};
 ghost use Rattle.law_sound.specs.SduLaws.{TakenAreTold};
 ghost use Rattle.law_sound.specs.AirSending.{EndsSendByAir};
@@ -296,12 +297,12 @@ pub fn records_go_on()
 
 /// So, at each moment of lives of two ends over the air, the history that is gathered of each flow
 /// of an acknowledged channel is the one that both ends stay beside, and what processes hold is
-/// what their blocks carry: no record leaves that which tells nothing of the flows, and sends or
-/// gets no new block; and what a side tells in a step in which no block is built or comes takes it
-/// to the moment behind the step. So does the record that a block is got which has the octets of
-/// the one that was sent last, with what its side then tells; and that of a new block, behind what
-/// its side tells and the records that name its PDUs. It is so as a bearer of the channel begins,
-/// and behind each handover, and no other line changes it.
+/// what their blocks carry. A record that tells nothing of the flows, and sends or gets no new
+/// block, leaves it so. What a side tells in a step in which no block is built or comes takes it to
+/// the moment behind the step; so does the record that a block is got which has the octets of the
+/// one that was sent last, with what its side then tells; and that of a new block, behind what its
+/// side tells and the records that name its PDUs: so do all records of a step. It is so as a bearer
+/// of the channel begins, and behind each handover, and no other line changes it.
 pub fn records_stay_beside()
     ensures others { OtherRecordsLeave }
     ensures acts { ActsAreGathered }
@@ -311,4 +312,5 @@ pub fn records_stay_beside()
     ensures begins { BearersBeginGathered }
     ensures moves { MovesAreGathered }
     ensures lines { OtherLinesLeave }
+    ensures steps { StepsAreGathered }
 {}

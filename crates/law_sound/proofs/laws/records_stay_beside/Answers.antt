@@ -2,6 +2,7 @@ use Rattle.law_sound.proofs.BesideActs.{acts_are_gathered, ttis_are_gathered}
 use Rattle.law_sound.proofs.BesideBuilding.{new_blocks_are_gathered}
 use Rattle.law_sound.proofs.BesideComing.{blocks_come}
 use Rattle.law_sound.proofs.BesideLives.{bearers_begin, moves_are_gathered, other_lines_leave}
+use Rattle.law_sound.proofs.BesideSteps.{steps_are_gathered}
 use Rattle.law_sound.proofs.OtherRecords.{other_records_leave}
 use Rattle.law_sound.proofs.laws.records_stay_beside.Goals as goal
 
@@ -28,3 +29,6 @@ returns-clause-moves c = moves_are_gathered
 
 pub returns-clause-lines : goal.returns-clause-lines
 returns-clause-lines c = other_lines_leave
+
+pub returns-clause-steps : goal.returns-clause-steps
+returns-clause-steps c = steps_are_gathered
