@@ -66,3 +66,4 @@ pub mod MovingFails
 pub mod LivedLimits
 pub mod GroupFails
 pub mod BesideSteps
+pub mod LoggedRecords

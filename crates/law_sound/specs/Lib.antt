@@ -24,5 +24,6 @@ pub mod ReorderingLaws
 pub mod EqualBlocks
 pub mod BesideLaws
 pub mod BesideSteps
+pub mod LoggedRecords
 pub mod HeldLaws
 pub mod RecordLaws

@@ -33,6 +33,7 @@ ghost use Rattle.law_sound.specs.BesideLaws.{BlocksThatComeAreGathered, NewBlock
 ghost use Rattle.law_sound.specs.BesideLaws.{BearersBeginGathered, MovesAreGathered};
 ghost use Rattle.law_sound.specs.BesideLaws.{OtherLinesLeave};
 ghost use Rattle.law_sound.specs.BesideSteps.{StepsAreGathered};
+ghost use Rattle.law_sound.specs.LoggedRecords.{RecordsTellTheLog, OwnRecordsTell};
 ghost use Rattle.law_sound.specs.NumberLaws.{NumbersAreGiven, NewPdusAreGathered};
 ghost use Rattle.law_sound.specs.SduLaws.{TakenAreTold};
 ghost use Rattle.law_sound.specs.AirSending.{EndsSendByAir};
@@ -313,4 +314,12 @@ pub fn records_stay_beside()
     ensures moves { MovesAreGathered }
     ensures lines { OtherLinesLeave }
     ensures steps { StepsAreGathered }
+{}
+
+/// What records tell of a channel's flows is just what a side's bearer logs of them, where they log
+/// only what that side does, and this is on the channel what its bearer logs. Where the side only
+/// tells, each of them is its own, or tells nothing of the flows.
+pub fn records_tell_the_log()
+    ensures told { RecordsTellTheLog }
+    ensures own { OwnRecordsTell }
 {}
