@@ -21,7 +21,7 @@ use Rattle.journal_flows.specs.Gathering.{Journal, behind_event, behind_record}
 use Rattle.air_record.specs.declared.record.Record.{Record}
 use Rattle.air_record.specs.declared.record.Record.TheVariants as records
 use Rattle.law_account.specs.History.{with_told}
-use Rattle.law_deliver.specs.AmFlow.Air.{AtNb, AtUe, does}
+use Rattle.law_deliver.specs.AmFlow.Air.{Air, Step, AtNb, AtUe, does}
 use Rattle.law_deliver.specs.AmFlow.Carrying.{CarriedPdu, pdu_octets, behind_act}
 use Rattle.law_deliver.specs.AmFlow.Reordering.{Reordering, reordering_told, reordering_in}
 use Rattle.law_deliver.proofs.AmFlow.Links.{same_bearer}
@@ -194,6 +194,25 @@ records_told kinds l side b log xs written j r =
       ue = t.ue;
     }
 
+-- ---- of the bearer that hears a flow: it is the one that sends the other
+
+module _ (l : ℕ) (side : Side) (a : Air) (s : Step) (hearing sending : State) (pdus own : List CarriedPdu)
+    (same : hearing ≡ sending) (come : pdus ≡ own) where
+  pub come_alike : come_in (logged_in l side a s hearing) ≡ map pdu_octets pdus
+      → come_in (logged_in l side a s sending) ≡ map pdu_octets own
+  come_alike logged =
+      ap (λ (b : State). come_in (logged_in l side a s b)) (sym same)
+      ∙ (logged ∙ ap (λ (ps : List CarriedPdu). map pdu_octets ps) come)
+
+  pub heard_alike : (es : List FlowEvent)
+      → with_reordering (reordering_in (told_in (logged_in l side a s sending))) (with_all_data own es)
+      ≡ with_reordering (reordering_in (told_in (logged_in l side a s hearing))) (with_all_data pdus es)
+  heard_alike es =
+      ap (λ (b : State). with_reordering (reordering_in (told_in (logged_in l side a s b))) (with_all_data own es))
+      (sym same)
+      ∙ ap (λ (ps : List CarriedPdu).
+      with_reordering (reordering_in (told_in (logged_in l side a s hearing))) (with_all_data ps es)) (sym come)
+
 -- ---- a step
 
 -- nothing comes, nor is written
@@ -211,22 +230,16 @@ acts_are_gathered kinds l Nb a x c down up j xs h done none quiet r g =
     let i = behind_all kinds xs j in
     let t = records_told kinds l Nb b (logged_in l Nb a (AtNb x) b) xs [] j r in
     let come : come_in (logged_in l Nb a (AtNb x) b) ≡ [] =
-    ap (λ (d : State). come_in (logged_in l Nb a (AtNb x) d)) (sym same)
-    ∙ ((lives_go_on_beside l a (AtNb x) c down up h done).go_on.by_ue.come
-    ∙ ap (λ (ps : List CarriedPdu). map pdu_octets ps) quiet) in
+    come_alike l Nb a (AtNb x) now.up.to_bearer b _ [] same quiet
+    (lives_go_on_beside l a (AtNb x) c down up h done).go_on.by_ue.come in
     let log = only_told (logged_in l Nb a (AtNb x) b) come r.writes in
-    let said : told_in (logged_in l Nb a (AtNb x) b) ≡ told_in (logged_in l Nb a (AtNb x) now.up.to_bearer) =
-    sym (ap (λ (d : State). told_in (logged_in l Nb a (AtNb x) d)) same) in
     record {
       down_is = t.own
           ∙ (ap (with_log b.pdcp.kind (has_more b.pdcp) (telling (told_in (logged_in l Nb a (AtNb x) b)))) g.down_is
           ∙ ap (λ (es : List BearerEntry). with_log b.pdcp.kind (has_more b.pdcp) es down) log);
       up_is = t.back
           ∙ (ap (with_reordering (reordering_in (told_in (logged_in l Nb a (AtNb x) b)))) g.up_is
-          ∙ (ap (λ (told : List Event). with_reordering (reordering_in told) up) said
-          ∙ ap (λ (ps : List CarriedPdu).
-          with_reordering (reordering_in (told_in (logged_in l Nb a (AtNb x) now.up.to_bearer)))
-          (with_all_data ps up)) (sym quiet)));
+          ∙ heard_alike l Nb a (AtNb x) now.up.to_bearer b _ [] same quiet up);
       by_nb = holds_same l j.nb i.nb (does a.ue a.nb x).blocks (behind_act l a.nb.end x c.nb) t.nb (record {
         held = held_blocks_stay l j.nb a.ue a.nb x c.nb done none g.by_nb.held;
         processes = g.by_nb.processes;
@@ -240,19 +253,13 @@ acts_are_gathered kinds l Ue a x c down up j xs h done none quiet r g =
     let i = behind_all kinds xs j in
     let t = records_told kinds l Ue b (logged_in l Ue a (AtUe x) b) xs [] j r in
     let come : come_in (logged_in l Ue a (AtUe x) b) ≡ [] =
-    ap (λ (d : State). come_in (logged_in l Ue a (AtUe x) d)) (sym same)
-    ∙ ((lives_go_on_beside l a (AtUe x) c down up h done).go_on.by_nb.come
-    ∙ ap (λ (ps : List CarriedPdu). map pdu_octets ps) quiet) in
+    come_alike l Ue a (AtUe x) now.down.to_bearer b _ [] same quiet
+    (lives_go_on_beside l a (AtUe x) c down up h done).go_on.by_nb.come in
     let log = only_told (logged_in l Ue a (AtUe x) b) come r.writes in
-    let said : told_in (logged_in l Ue a (AtUe x) b) ≡ told_in (logged_in l Ue a (AtUe x) now.down.to_bearer) =
-    sym (ap (λ (d : State). told_in (logged_in l Ue a (AtUe x) d)) same) in
     record {
       down_is = t.back
           ∙ (ap (with_reordering (reordering_in (told_in (logged_in l Ue a (AtUe x) b)))) g.down_is
-          ∙ (ap (λ (told : List Event). with_reordering (reordering_in told) down) said
-          ∙ ap (λ (ps : List CarriedPdu).
-          with_reordering (reordering_in (told_in (logged_in l Ue a (AtUe x) now.down.to_bearer)))
-          (with_all_data ps down)) (sym quiet)));
+          ∙ heard_alike l Ue a (AtUe x) now.down.to_bearer b _ [] same quiet down);
       up_is = t.own
           ∙ (ap (with_log b.pdcp.kind (has_more b.pdcp) (telling (told_in (logged_in l Ue a (AtUe x) b)))) g.up_is
           ∙ ap (λ (es : List BearerEntry). with_log b.pdcp.kind (has_more b.pdcp) es up) log);

@@ -51,14 +51,13 @@ use Rattle.law_rlc.specs.AmPair.Flow.{Flow}
 use Rattle.law_run.specs.TwoEnds.ChannelLog.{coming, come_in, told_in, written_in as written_of, parted}
 use Rattle.law_run.specs.TwoEnds.SenderLog.{BearerEntry, telling, writing}
 use Rattle.law_sound.specs.BesideLaws.{behind_all, octets_of, NewBlocksAreGathered}
-use Rattle.law_sound.specs.CarriedLaws.{with_all_data}
 use Rattle.law_sound.specs.HearingLaws.{with_reordering, event_of, HasOneData}
 use Rattle.law_sound.specs.LivedHistories.{AreLived, logged_in, coming_in}
 use Rattle.law_sound.specs.LoadLaws.{with_written_read, with_all_written}
 use Rattle.law_sound.specs.LogLaws.{sdu_size, event_told, written_told, with_log}
 use Rattle.law_sound.specs.NumberLaws.{IsReadAs, AreGathered}
 use Rattle.law_sound.specs.RecordLaws.{IsNewBlock}
-use Rattle.law_sound.proofs.BesideActs.{records_told}
+use Rattle.law_sound.proofs.BesideActs.{records_told, come_alike, heard_alike}
 use Rattle.law_sound.proofs.CarriedBlocks.{as_long, tail_one, last_alone}
 use Rattle.law_sound.proofs.LivedHistories.{lives_go_on_beside}
 use Rattle.law_sound.proofs.Logs.{log_both}
@@ -244,21 +243,14 @@ new_blocks_are_gathered kinds l Nb a x c down up j xs h done b r names g =
     let built = new_records_build kinds directions.Down l octets i a.ue a.nb x c.nb done b block holds'.held in
     let none : coming_in Ue (AtNb x) c ≡ [] = ap (λ (y : Act). coming_in Ue (AtNb y) c) b.is in
     let come : come_in (logged_in l Nb a (AtNb x) d) ≡ [] =
-    ap (λ (e : State). come_in (logged_in l Nb a (AtNb x) e)) (sym same)
-    ∙ (on.go_on.by_ue.come ∙ ap (λ (ps : List CarriedPdu). map pdu_octets ps) none) in
-    let said : told ≡ told_in (logged_in l Nb a (AtNb x) now.up.to_bearer) =
-    sym (ap (λ (e : State). told_in (logged_in l Nb a (AtNb x) e)) same) in
+    come_alike l Nb a (AtNb x) now.up.to_bearer d _ [] same none on.go_on.by_ue.come in
     record {
       down_is = built.out
           ∙ (ap (λ (es : List FlowEvent). with_all_written (next_of es) own es) own_is
           ∙ log_written kind more (logged_in l Nb a (AtNb x) d) told own down come refl (r.writes ∙ first)
           gathered.read gathered.one);
       up_is = ap (λ (es : List LifeEvent). running es) built.back
-          ∙ (back_is
-          ∙ (ap (λ (es : List Event). with_reordering (reordering_in es) up) said
-          ∙ ap (λ (ps : List CarriedPdu).
-          with_reordering (reordering_in (told_in (logged_in l Nb a (AtNb x) now.up.to_bearer)))
-          (with_all_data ps up)) (sym none)));
+          ∙ (back_is ∙ heard_alike l Nb a (AtNb x) now.up.to_bearer d _ [] same none up);
       by_nb = record {
         held = built.held;
         processes = length-set i.nb.held (b.turn.tti % 8) _ ∙ block.processes;
@@ -301,21 +293,14 @@ new_blocks_are_gathered kinds l Ue a x c down up j xs h done b r names g =
     let built = new_records_build kinds directions.Up l octets i a.nb a.ue x c.ue done b block holds'.held in
     let none : coming_in Nb (AtUe x) c ≡ [] = ap (λ (y : Act). coming_in Nb (AtUe y) c) b.is in
     let come : come_in (logged_in l Ue a (AtUe x) d) ≡ [] =
-    ap (λ (e : State). come_in (logged_in l Ue a (AtUe x) e)) (sym same)
-    ∙ (on.go_on.by_nb.come ∙ ap (λ (ps : List CarriedPdu). map pdu_octets ps) none) in
-    let said : told ≡ told_in (logged_in l Ue a (AtUe x) now.down.to_bearer) =
-    sym (ap (λ (e : State). told_in (logged_in l Ue a (AtUe x) e)) same) in
+    come_alike l Ue a (AtUe x) now.down.to_bearer d _ [] same none on.go_on.by_nb.come in
     record {
       up_is = built.out
           ∙ (ap (λ (es : List FlowEvent). with_all_written (next_of es) own es) own_is
           ∙ log_written kind more (logged_in l Ue a (AtUe x) d) told own up come refl (r.writes ∙ first)
           gathered.read gathered.one);
       down_is = ap (λ (es : List LifeEvent). running es) built.back
-          ∙ (back_is
-          ∙ (ap (λ (es : List Event). with_reordering (reordering_in es) down) said
-          ∙ ap (λ (ps : List CarriedPdu).
-          with_reordering (reordering_in (told_in (logged_in l Ue a (AtUe x) now.down.to_bearer)))
-          (with_all_data ps down)) (sym none)));
+          ∙ (back_is ∙ heard_alike l Ue a (AtUe x) now.down.to_bearer d _ [] same none down);
       by_ue = record {
         held = built.held;
         processes = length-set i.ue.held (b.turn.tti % 8) _ ∙ block.processes;

@@ -41,7 +41,7 @@ use Rattle.law_sound.specs.HearingLaws.{with_reordering}
 use Rattle.law_sound.specs.HeldLaws.{held_parcels}
 use Rattle.law_sound.specs.LivedHistories.{AreLived, logged_in}
 use Rattle.law_sound.specs.LogLaws.{come_told, with_log}
-use Rattle.law_sound.proofs.BesideActs.{records_told}
+use Rattle.law_sound.proofs.BesideActs.{records_told, come_alike, heard_alike}
 use Rattle.law_sound.proofs.Brought.{IsRead, copy_read}
 use Rattle.law_sound.proofs.CarriedBlocks.{as_long, parcels_bring, carried_pdus_come}
 use Rattle.law_sound.proofs.EqualBlocks.{equal_blocks_carry_alike}
@@ -158,21 +158,16 @@ blocks_come kinds l Ue a k c down up j xs block h at sent r g =
     let next_up = next_is _ up b.tx h.beside.by_ue.follows ∙ ap (λ (s : State). next s.tx.window) (sym same) in
     let come = parcels_bring Nb l o.own (sent_last j.nb) j.flows parcels
     (possible_at _ _ _ _ o.own (ap next_of g.down_is ∙ next_down) (ap next_of g.up_is ∙ next_up) bring.possible) in
+    let brings : unwrap_or (slice_get c.nb k) [] ≡ o.own =
+    ap (λ (x : Option (List CarriedPdu)). unwrap_or x []) o.there in
     let log : come_in (logged_in l Ue a (AtUe (Comes k)) b) ≡ map pdu_octets o.own =
-    ap (λ (d : State). come_in (logged_in l Ue a (AtUe (Comes k)) d)) (sym same)
-    ∙ ((lives_go_on_beside l a (AtUe (Comes k)) c down up h tt).go_on.by_nb.come
-    ∙ ap (λ (x : Option (List CarriedPdu)). map pdu_octets (unwrap_or x [])) o.there) in
-    let said : told_in (logged_in l Ue a (AtUe (Comes k)) b)
-    ≡ told_in (logged_in l Ue a (AtUe (Comes k)) now.down.to_bearer) =
-    sym (ap (λ (d : State). told_in (logged_in l Ue a (AtUe (Comes k)) d)) same) in
+    come_alike l Ue a (AtUe (Comes k)) now.down.to_bearer b _ o.own same brings
+    (lives_go_on_beside l a (AtUe (Comes k)) c down up h tt).go_on.by_nb.come in
     record {
       down_is = t.back
           ∙ (ap (with_reordering (reordering_in (told_in (logged_in l Ue a (AtUe (Comes k)) b))))
           (come.own ∙ ap (with_all_data o.own) g.down_is)
-          ∙ (ap (λ (told : List Event). with_reordering (reordering_in told) (with_all_data o.own down)) said
-          ∙ ap (λ (x : Option (List CarriedPdu)).
-          with_reordering (reordering_in (told_in (logged_in l Ue a (AtUe (Comes k)) now.down.to_bearer)))
-          (with_all_data (unwrap_or x []) down)) (sym o.there)));
+          ∙ heard_alike l Ue a (AtUe (Comes k)) now.down.to_bearer b _ o.own same brings down);
       up_is = t.own
           ∙ (ap (with_log b.pdcp.kind (has_more b.pdcp) (telling (told_in (logged_in l Ue a (AtUe (Comes k)) b))))
           (come.back ∙ ap (with_all_statuses o.own) g.up_is)
@@ -205,13 +200,11 @@ blocks_come kinds l Nb a k c down up j xs block h at sent r g =
     let next_down = next_is _ down b.tx h.beside.by_nb.follows ∙ ap (λ (s : State). next s.tx.window) (sym same) in
     let come = parcels_bring Ue l o.own (sent_last j.ue) j.flows parcels
     (possible_at _ _ _ _ o.own (ap next_of g.up_is ∙ next_up) (ap next_of g.down_is ∙ next_down) bring.possible) in
+    let brings : unwrap_or (slice_get c.ue k) [] ≡ o.own =
+    ap (λ (x : Option (List CarriedPdu)). unwrap_or x []) o.there in
     let log : come_in (logged_in l Nb a (AtNb (Comes k)) b) ≡ map pdu_octets o.own =
-    ap (λ (d : State). come_in (logged_in l Nb a (AtNb (Comes k)) d)) (sym same)
-    ∙ ((lives_go_on_beside l a (AtNb (Comes k)) c down up h tt).go_on.by_ue.come
-    ∙ ap (λ (x : Option (List CarriedPdu)). map pdu_octets (unwrap_or x [])) o.there) in
-    let said : told_in (logged_in l Nb a (AtNb (Comes k)) b)
-    ≡ told_in (logged_in l Nb a (AtNb (Comes k)) now.up.to_bearer) =
-    sym (ap (λ (d : State). told_in (logged_in l Nb a (AtNb (Comes k)) d)) same) in
+    come_alike l Nb a (AtNb (Comes k)) now.up.to_bearer b _ o.own same brings
+    (lives_go_on_beside l a (AtNb (Comes k)) c down up h tt).go_on.by_ue.come in
     record {
       down_is = t.own
           ∙ (ap (with_log b.pdcp.kind (has_more b.pdcp) (telling (told_in (logged_in l Nb a (AtNb (Comes k)) b))))
@@ -224,10 +217,7 @@ blocks_come kinds l Nb a k c down up j xs block h at sent r g =
       up_is = t.back
           ∙ (ap (with_reordering (reordering_in (told_in (logged_in l Nb a (AtNb (Comes k)) b))))
           (come.own ∙ ap (with_all_data o.own) g.up_is)
-          ∙ (ap (λ (told : List Event). with_reordering (reordering_in told) (with_all_data o.own up)) said
-          ∙ ap (λ (x : Option (List CarriedPdu)).
-          with_reordering (reordering_in (told_in (logged_in l Nb a (AtNb (Comes k)) now.up.to_bearer)))
-          (with_all_data (unwrap_or x []) up)) (sym o.there)));
+          ∙ heard_alike l Nb a (AtNb (Comes k)) now.up.to_bearer b _ o.own same brings up);
       by_nb = holds_same l j.nb i.nb (does a.ue a.nb (Comes k)).blocks c.nb t.nb (record {
         held = held_blocks_stay l j.nb a.ue a.nb (Comes k) c.nb tt (comes_builds_none k a.nb.end) g.by_nb.held;
         processes = g.by_nb.processes;
