@@ -178,6 +178,12 @@ unsaid_end d l place said done =
     none : (c : Cursor) → told_in d l c (records.Drained done ∷ []) ≡ []
     none c = refl
 
+-- how a drain ends, behind all else, or nothing
+abbrev pub EndsDrain : List Record → Type 0
+EndsDrain [] = Unit {0}
+EndsDrain (records.Drained done ∷ []) = Unit {0}
+EndsDrain told = ⊥
+
 -- of what is known of a link by what was told, submitted, what went by air and what was set since it began: a step goes
 -- on with it
 pub record StepLives (l : ℕ) (Live : List Record → Sdus → Happened → Bool → Link
@@ -400,6 +406,9 @@ module _ (l : ℕ) (Live : List Record → Sdus → Happened → Bool → Link �
     pub told_are : (side : Side) → events_of side m.out ≡ events_of side more
     pub logged_are : logged no_flight m.out ≡ logged no_flight more
     pub haps_are : (d : Direction) (place : Cursor) → told_in d l place m.out ≡ told_in d l place more
+    pub rest : List Record
+    pub out_is : m.out ≡ more ++ rest
+    pub rest_ends : EndsDrain rest
 
   pub step_plays : (told : List Record) (handed : Sdus) (flown : Happened) (set : Bool) (s : Step) (k : Link)
       (p : Part) → k.out ≡ [] → ((side : Side) (n : ℕ) → handed_by side n s k ≡ handed_in side n p (step s k).out)
@@ -422,6 +431,9 @@ module _ (l : ℕ) (Live : List Record → Sdus → Happened → Bool → Link �
         told_are = λ side. refl;
         logged_are = refl;
         haps_are = λ d place. refl;
+        rest = [];
+        out_is = sym (append-nil m.out);
+        rest_ends = tt;
       }
 
   line_by : (told : List Record) (handed : Sdus) (flown : Happened) (set : Bool) (s : Step) (k : Link) (p : Part)
@@ -450,6 +462,9 @@ module _ (l : ℕ) (Live : List Record → Sdus → Happened → Bool → Link �
     told_are = λ side. ap (events_of side) nothing;
     logged_are = ap (logged no_flight) nothing;
     haps_are = λ d place. ap (told_in d l place) nothing;
+    rest = [];
+    out_is = nothing;
+    rest_ends = tt;
   }
 
   submit_lives : (told : List Record) (handed : Sdus) (flown : Happened) (set : Bool) (side : Side) (lcid : ℕ)
@@ -483,6 +498,9 @@ module _ (l : ℕ) (Live : List Record → Sdus → Happened → Bool → Link �
         told_are = λ side. ap (events_of side) w.journal_is ∙ untold_end side w.said w.done;
         logged_are = ap (logged no_flight) w.journal_is ∙ unlogged_end w.said w.done;
         haps_are = λ d place. ap (told_in d l place) w.journal_is ∙ unsaid_end d l place w.said w.done;
+        rest = records.Drained w.done ∷ [];
+        out_is = w.journal_is;
+        rest_ends = tt;
       }
 
   -- any line but a handover

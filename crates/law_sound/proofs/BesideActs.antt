@@ -119,7 +119,8 @@ module _ (kinds : List (Option Layout)) (kind : PdcpKind) (l : ℕ) (more : Bool
     ue = left.ue;
   }
 
-  event_adds : (now : Bool) (e : Event) (j : Journal Histories) → is_on l e ≡ true → MayTakeAs more now e → HasCount e
+  event_adds : (now : Bool) (e : Event) (j : Journal Histories) → is_on l e ≡ true → MayTakeAs more now e
+      → HasCount kind e
       → AreTold (e ∷ []) (behind_event histories kinds now side e j) j
   event_adds now e j on takes count =
       let t = told_is_gathered kinds kind now side l (e ∷ []) j.flows known (count, tt) in
@@ -139,7 +140,7 @@ module _ (kinds : List (Option Layout)) (kind : PdcpKind) (l : ℕ) (more : Bool
         ue = ue_held kinds now side e j;
       }
 
-  one_told : (now : Bool) (one : Record) (j : Journal Histories) → IsToldAt l side more now one
+  one_told : (now : Bool) (one : Record) (j : Journal Histories) → IsToldAt l side kind more now one
       → AreTold (flow_event l one) (behind_record histories kinds now one j) j
   one_told now (records.Of own e) j h = by (tells_flow l e) refl
     where
@@ -153,7 +154,7 @@ module _ (kinds : List (Option Layout)) (kind : PdcpKind) (l : ℕ) (more : Bool
   one_told now one j h = none_told _ j (one_left kinds now l one j h)
 
   all_records_told : (xs : List ReadRecord) (j : Journal Histories)
-      → AllByRecursion (λ (x : ReadRecord). IsToldAt l side more x.more x.one) xs
+      → AllByRecursion (λ (x : ReadRecord). IsToldAt l side kind more x.more x.one) xs
       → AreTold (flow_events l xs) (behind_all kinds xs j) j
   all_records_told [] j each = record { own = refl; back = refl; nb = refl; ue = refl }
   all_records_told (x ∷ xs) j each =

@@ -138,7 +138,7 @@ module _ (kind : PdcpKind) (more : Bool) where
 
 -- ---- what an end writes into its block
 
-match_at : (l : ℕ) (a : Air) (c : Carried) (down up : List FlowEvent) (h : AreLived l a c down up)
+pub match_at : (l : ℕ) (a : Air) (c : Carried) (down up : List FlowEvent) (h : AreLived l a c down up)
     → BothMatch l h.nb_bearer h.ue_bearer a c
 match_at l a c down up h =
     subst (λ (z : Air). BothMatch l h.nb_bearer h.ue_bearer z c) (sym h.there)
@@ -154,7 +154,7 @@ either P false ps some none = none
 module _ (l : ℕ) (side : Side) (sending other_sending : AmTxConfig) (receiving other_receiving : AmRxConfig)
     (from to : Station) (out : IsFlowOn l sending other_receiving from.end to.end)
     (back : IsFlowOn l other_sending receiving to.end from.end) where
-  gathered_on : (n : BearerEnd) → Matches side l from n → (x : Act) → IsDone l from x → (b : Builds from.end x)
+  pub gathered_on : (n : BearerEnd) → Matches side l from n → (x : Act) → IsDone l from x → (b : Builds from.end x)
       → (most other_most : ℕ) (es xs : List FlowEvent) → AreEndsOf most es out.from_bearer.tx out.to_bearer.rx
       → AreEndsOf other_most xs back.from_bearer.tx back.to_bearer.rx
       → AreGathered (next_of es) (front_in xs) l (written_on l b.turn (visited b.turn.tti b.turn.order from.end))
@@ -186,7 +186,7 @@ module _ (l : ℕ) (side : Side) (sending other_sending : AmTxConfig) (receiving
       })
 
 -- it stands first among the blocks then
-carried_first : (l : ℕ) (side : Side) (f g : Flow) (o s : Station) (x : Act) (pdus : List (List CarriedPdu))
+pub carried_first : (l : ℕ) (side : Side) (f g : Flow) (o s : Station) (x : Act) (pdus : List (List CarriedPdu))
     → (b : Builds s.end x) → AllCarryAs l (sent_by side) f g (does o s x).blocks (behind_act l s.end x pdus)
     → carried l (sent_by side) (octets_of s x b)
     ≡ map pdu_octets (written_on l b.turn (visited b.turn.tti b.turn.order s.end))

@@ -15,7 +15,7 @@ use Rattle.law_sound.proofs.BesideActs.{acts_are_gathered, ttis_are_gathered}
 use Rattle.law_sound.proofs.BesideBuilding.{new_blocks_are_gathered}
 use Rattle.law_sound.proofs.BesideComing.{blocks_come}
 
-behind_last : (kinds : List (Option Layout)) (xs : List ReadRecord) (x : ReadRecord) (j : Journal Histories)
+pub behind_last : (kinds : List (Option Layout)) (xs : List ReadRecord) (x : ReadRecord) (j : Journal Histories)
     → behind_all kinds (xs ++ x ∷ []) j ≡ behind_record histories kinds x.more x.one (behind_all kinds xs j)
 behind_last kinds [] x j = refl
 behind_last kinds (y ∷ xs) x j = behind_last kinds xs x (behind_record histories kinds y.more y.one j)

@@ -41,19 +41,21 @@ pub own_running : (side : Side) (l : ℕ) (e : LifeEvent) (h : Histories)
     → running ((all_told histories (told side l e) h).acked side l) ≡ running (e ∷ h.acked side l)
 own_running side l e h possible = ap (λ (es : List LifeEvent). running es) (told_own side l e h possible)
 
-counted : (lcid : ℕ) (count : Option ℕ) (len : ℕ) → HasCount (events.Take lcid count len) → is_count_of count ≡ true
-counted lcid None len c = refl
-counted lcid (Some count) len c = lt-ltb count (2 ^ 32) c
+counted : (bits lcid : ℕ) (count : Option ℕ) (len : ℕ) → HasCount (pdcp.Am bits) (events.Take lcid count len)
+    → is_count_of count ≡ true
+counted bits lcid None len c = refl
+counted bits lcid (Some count) len c = lt-ltb count (2 ^ 32) c
 
 taken_gathered : (kind : PdcpKind) (side : Side) (l : ℕ) (count : Option ℕ) (len : ℕ) (more : Bool) (h : Histories)
-    → HasCount (events.Take l count len)
+    → HasCount kind (events.Take l count len)
     → running ((all_told histories (taken_as (Some (layouts.Am kind)) side l count len) h).acked side l)
     ≡ with_told (event_told kind more (events.Take l count len)) (running (h.acked side l))
 taken_gathered pdcp.Srb side l count len more h c = own_running side l (PduGiven None (len + 5)) h refl
-taken_gathered (pdcp.Um bits) side l count len more h c =
-    own_running side l (PduGiven count (len + 2)) h (counted l count len c)
+taken_gathered (pdcp.Um bits) side l None len more h c = own_running side l (PduGiven None (len + 2)) h refl
+taken_gathered (pdcp.Um bits) side l (Some count) len more h c =
+    own_running side l (PduGiven (Some count) (len + 2)) h (lt-ltb count (2 ^ 32) c)
 taken_gathered (pdcp.Am bits) side l count len more h c =
-    own_running side l (PduGiven count (len + 2)) h (counted l count len c)
+    own_running side l (PduGiven count (len + 2)) h (counted bits l count len c)
 
 report_gathered : (kind : PdcpKind) (side : Side) (l fms : ℕ) (bitmap : List ℕ) (more : Bool) (h : Histories)
     → running ((all_told histories (report_as (Some (layouts.Am kind)) side l (length bitmap)) h).acked side l)
@@ -81,7 +83,7 @@ events_gathered kinds kind more side l (events.Take lcid count len) h k on c =
     side l) ≡ with_told (event_told kind more (events.Take n count len)) (running (h.acked side l))) (sym is)
     (subst (λ (x : Option Layout). running ((all_told histories (taken_as x side l count len) h).acked side l)
     ≡ with_told (event_told kind more (events.Take l count len)) (running (h.acked side l))) (sym k)
-    (taken_gathered kind side l count len more h c))
+    (taken_gathered kind side l count len more h (subst (λ (n : ℕ). HasCount kind (events.Take n count len)) is c)))
 events_gathered kinds kind more side l (events.Report lcid fms bitmap) h k on c =
     let is : lcid ≡ l = eqb-true lcid l on in
     subst (λ (n : ℕ). running ((all_told histories (report_as (slice_index_or kinds n None) side n

@@ -56,13 +56,13 @@ use Rattle.law_sound.proofs.Walk.{Stands, Course}
 
 -- ---- how PDUs are read
 
-abbrev layout_by : Option BearerConfig → Option Layout
+abbrev pub layout_by : Option BearerConfig → Option Layout
 layout_by None = None
 layout_by (Some c) = Some (layout_of c.kind c.rlc_bits c.pdcp_bits)
 
-record AreKinds (past : List Group) : Type 0 where
-  size : length (kinds past) ≡ 11
-  is : (l : ℕ) → l ≤ 10 → slice_index_or (kinds past) l None ≡ layout_by (config_of l past)
+pub record AreKinds (past : List Group) : Type 0 where
+  pub size : length (kinds past) ≡ 11
+  pub is : (l : ℕ) → l ≤ 10 → slice_index_or (kinds past) l None ≡ layout_by (config_of l past)
 
 abbrev nothing : Option Layout
 nothing = None
@@ -101,7 +101,7 @@ line_kinds number (lines.Bearer config options) events past k = record {
 }
 line_kinds number line events past k = record { size = k.size; is = k.is }
 
-are_kinds : (past : List Group) → AreKinds past
+pub are_kinds : (past : List Group) → AreKinds past
 are_kinds [] = record { size = refl; is = λ l low. none_there 11 l }
 are_kinds (g ∷ past) = line_kinds g.number g.line g.events past (are_kinds past)
 
@@ -129,7 +129,7 @@ pub record IsBehind (may_take : MayTake) (from : Side) (l : ℕ) (config : Beare
 
 -- ---- as a bearer begins nothing was told
 
-abbrev AreSilent : List Group → Type 0
+abbrev pub AreSilent : List Group → Type 0
 AreSilent past = AllByRecursion IsEarly past
 
 renewed_none : (a : Account) → Agrees a [] → Agrees (renewed a) []
@@ -225,13 +225,13 @@ sending_none Nb true j h = refl
 sending_none Ue true j h = refl
 sending_none from false j h = h
 
-sending_line : (from : Side) (line : Line) (j : Journal Histories)
+pub sending_line : (from : Side) (line : Line) (j : Journal Histories)
     → sending_of from (behind_line histories line j) ≡ sending_of from j
 sending_line Nb (lines.Bearer config options) j = refl
 sending_line Ue (lines.Bearer config options) j = refl
 sending_line from line j = refl
 
-silent_sending : (may_take : MayTake) (from : Side) (past : List Group) → AreSilent past
+pub silent_sending : (may_take : MayTake) (from : Side) (past : List Group) → AreSilent past
     → sending_of from (gathered may_take past) ≡ nothing_sent
 silent_sending may_take Nb [] h = refl
 silent_sending may_take Ue [] h = refl

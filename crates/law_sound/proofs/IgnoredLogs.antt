@@ -50,11 +50,11 @@ use Rattle.law_sound.proofs.Logs.{logs_tell_calls, logs_tell_flows, else_log}
 
 -- ---- entries
 
-told_both : (xs ys : List BearerEntry) → told_ignored (xs ++ ys) ≡ told_ignored xs + told_ignored ys
+pub told_both : (xs ys : List BearerEntry) → told_ignored (xs ++ ys) ≡ told_ignored xs + told_ignored ys
 told_both [] ys = omega arith
 told_both (x ∷ xs) ys = let rest = told_both xs ys in omega (arith, rest)
 
-writing_none : (written : List (List ℕ)) → told_ignored (writing written) ≡ 0
+pub writing_none : (written : List (List ℕ)) → told_ignored (writing written) ≡ 0
 writing_none [] = refl
 writing_none (octets ∷ written) = let more = writing_none written in omega (arith, more)
 

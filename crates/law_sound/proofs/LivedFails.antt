@@ -76,9 +76,9 @@ bearers_fail l f cs =
 
 -- ---- the calls of an end in a step of a life
 
-record AreOfLife (l : ℕ) (cs : List Call) : Type 0 where
-  given : AreGivenCalls cs
-  life : AllByRecursion (GoesOnInLife l) cs
+pub record AreOfLife (l : ℕ) (cs : List Call) : Type 0 where
+  pub given : AreGivenCalls cs
+  pub life : AllByRecursion (GoesOnInLife l) cs
 
 no_calls : (l : ℕ) → AreOfLife l []
 no_calls l = record { given = tt; life = tt }
@@ -92,7 +92,7 @@ act_of l other s (Calls c) g = record { given = (g.0, tt); life = (g.1, tt) }
 act_of l other s (Comes k) g = brought_of l (slice_get other.blocks k)
 act_of l other s (Goes k) g = no_calls l
 
-step_of : (l : ℕ) (side : Side) (a : Air) (s : Step) → IsGiven l a s → AreOfLife l (calls_at side a (InLife s))
+pub step_of : (l : ℕ) (side : Side) (a : Air) (s : Step) → IsGiven l a s → AreOfLife l (calls_at side a (InLife s))
 step_of l Nb a (AtNb x) g = act_of l a.ue a.nb x g
 step_of l Nb a (AtUe x) g = no_calls l
 step_of l Nb a Passes g = no_calls l

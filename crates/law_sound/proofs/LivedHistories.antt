@@ -120,7 +120,7 @@ module _ (l : ℕ) (d : Direction) (f g : Flow) where
       let more = own_at bs pdus k block h.1 at in
       record { own = more.own; there = more.there; carries = more.carries }
 
-  none_at : (bs : List Block) (pdus : List (List CarriedPdu)) (k : ℕ) → AllCarryAs l d f g bs pdus
+  pub none_at : (bs : List Block) (pdus : List (List CarriedPdu)) (k : ℕ) → AllCarryAs l d f g bs pdus
       → slice_get bs k ≡ None → slice_get pdus k ≡ None
   none_at [] [] k h at = refl
   none_at [] (ps ∷ pdus) k h at = absurd h

@@ -24,11 +24,11 @@ use Rattle.law_sound.specs.LoggedRecords.{records_of, IsOfSide, RecordsTellTheLo
 
 -- ---- what is told in a log
 
-said_coming : (pdus : List (List ℕ)) → told_in (coming pdus) ≡ []
+pub said_coming : (pdus : List (List ℕ)) → told_in (coming pdus) ≡ []
 said_coming [] = refl
 said_coming (pdu ∷ pdus) = said_coming pdus
 
-said_parted : (log : List BearerEntry) → told_in (parted log) ≡ told_in log
+pub said_parted : (log : List BearerEntry) → told_in (parted log) ≡ told_in log
 said_parted log =
     said_both (coming (come_in log)) (telling (told_in log) ++ writing (written_in log))
     ∙ (ap (λ (es : List Event). es ++ told_in (telling (told_in log) ++ writing (written_in log)))
@@ -36,10 +36,10 @@ said_parted log =
     ∙ said_all (told_in log) (written_in log))
 
 module _ (l : ℕ) (side : Side) where
-  abbrev said_on : List LogEntry → List Event
+  abbrev pub said_on : List LogEntry → List Event
   said_on hs = told_in (on_channel l side hs)
 
-  on_more : (hs gs : List LogEntry) → said_on (hs ++ gs) ≡ said_on hs ++ said_on gs
+  pub on_more : (hs gs : List LogEntry) → said_on (hs ++ gs) ≡ said_on hs ++ said_on gs
   on_more [] gs = refl
   on_more (h ∷ hs) gs =
       let now = on_channel_at l side h in
@@ -75,7 +75,7 @@ none_told true log q =
 none_told false log q = refl
 
 module _ (l : ℕ) (side : Side) where
-  abbrev IsSaid : List Event → List LogEntry → Type 0
+  abbrev pub IsSaid : List Event → List LogEntry → Type 0
   IsSaid es hs = es ≡ filter tells (said_on l side hs)
 
   event_said : (own : Side) (e : Event) (b : Bool) → is_of_loop e ≡ b
@@ -113,7 +113,7 @@ module _ (l : ℕ) (side : Side) where
 
   -- ---- all records
 
-  records_said : (sent : Flight) (xs : List ReadRecord)
+  pub records_said : (sent : Flight) (xs : List ReadRecord)
       → AllByRecursion (IsOfSide side) (logged sent (records_of xs))
       → IsSaid (flow_events l xs) (logged sent (records_of xs))
   records_said sent [] of_side = refl

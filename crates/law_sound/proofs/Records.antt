@@ -369,7 +369,7 @@ pub account_both : (hs gs : List AccountEntry) (a : Account) → account (hs ++ 
 account_both [] gs a = refl
 account_both (h ∷ hs) gs a = account_both hs gs (accounted h a)
 
-sent_both : (es fs : List Event) → sent_pdus (es ++ fs) ≡ sent_pdus es ++ sent_pdus fs
+pub sent_both : (es fs : List Event) → sent_pdus (es ++ fs) ≡ sent_pdus es ++ sent_pdus fs
 sent_both [] fs = refl
 sent_both (Send lcid how sn ∷ es) fs = ap (λ (ss : List SentPdu). sent_pdu lcid how sn ∷ ss) (sent_both es fs)
 sent_both (e ∷ es) fs = sent_both es fs

@@ -163,7 +163,7 @@ event_elsewhere kinds more side l e q = tt
 
 -- behind the first
 one_more : (kinds : List (Option Layout)) (kind : PdcpKind) (more : Bool) (side : Side) (l : ℕ) (e : Event)
-    (told : List Event) (h : Histories) → slice_index_or kinds l None ≡ Some (layouts.Am kind) → HasCount e
+    (told : List Event) (h : Histories) → slice_index_or kinds l None ≡ Some (layouts.Am kind) → HasCount kind e
     → AreGatheredOver kinds kind more side l told (all_told histories (told_by kinds more side e) h)
     → AreGatheredOver kinds kind more side l (e ∷ told) h
 one_more kinds kind more side l e told h k count rest = by (is_on l e) refl

@@ -26,7 +26,7 @@ module _ {F : Type 0} (g : Gatherer F) where
   event_keeps kinds more by Nb event j = refl
   event_keeps kinds more by Ue event j = refl
 
-  record_process : (kinds : List (Option Layout)) (more : Bool) (one : Record) (side : Side) (j : Journal F)
+  pub record_process : (kinds : List (Option Layout)) (more : Bool) (one : Record) (side : Side) (j : Journal F)
       → (sending_of side (behind_record g kinds more one j)).process
       ≡ process_last side one (sending_of side j).process
   record_process kinds more (records.Of by event) side j = event_keeps kinds more by side event j

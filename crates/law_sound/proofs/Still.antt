@@ -21,6 +21,8 @@ use Rattle.promises.specs.Names.{SentPdu}
 use Rattle.promises.specs.Order.{EndTells, LoopTells, IsOfLoop, HandoverTells, Channels, of_leaving}
 use Rattle.promises.specs.Records.{sent_last}
 use Rattle.promises.specs.SentNumbers.{sent_in}
+use Rattle.law_bearer.proofs.AnyBearer.SenderCalls.{all_then}
+use Rattle.law_deliver.proofs.AmFlow.Loads.{each as each_still}
 use Rattle.law_sound.proofs.Given.{none_given}
 use Rattle.law_sound.proofs.Records.{none_sent_by, sent_next}
 
@@ -43,6 +45,39 @@ IsStill one = Unit {0}
 
 abbrev pub AreStill : List Record → Type 0
 AreStill told = AllByRecursion IsStill told
+
+-- what is told as SDUs go up, or are dropped
+abbrev pub IsGoneEvent : Event → Type 0
+IsGoneEvent (events.Up lcid sdu) = Unit {0}
+IsGoneEvent (events.Drop lcid losts.Ignored) = ⊥
+IsGoneEvent (events.Drop lcid why) = Unit {0}
+IsGoneEvent (events.Integrity lcid found wanted) = Unit {0}
+IsGoneEvent (events.BadPdcp lcid fault) = Unit {0}
+IsGoneEvent event = ⊥
+
+abbrev AreGoneEvents : List Event → Type 0
+AreGoneEvents told = AllByRecursion IsGoneEvent told
+
+abbrev pub IsGone : Record → Type 0
+IsGone (records.Of side event) = IsGoneEvent event
+IsGone (records.Block way process fresh version octets) = ⊥
+IsGone (records.Air way what heard) = ⊥
+IsGone one = Unit {0}
+
+abbrev pub AreGone : List Record → Type 0
+AreGone told = AllByRecursion IsGone told
+
+event_still : (event : Event) → IsGoneEvent event → IsStillEvent event
+event_still (events.Take lcid count len) h = absurd h
+event_still (events.Report lcid fms bitmap) h = absurd h
+event_still (events.Send lcid how sn) h = absurd h
+event_still event h = tt
+
+record_still : (one : Record) → IsGone one → IsStill one
+record_still (records.Of side event) h = event_still event h
+record_still (records.Block way process fresh version octets) h = absurd h
+record_still (records.Air way what heard) h = absurd h
+record_still one h = tt
 
 -- ---- they tell of nothing
 
@@ -91,45 +126,59 @@ pub still_both : (xs ys : List Record) → AreStill xs → AreStill ys → AreSt
 still_both [] ys h k = k
 still_both (x ∷ xs) ys h k = (h.0, still_both xs ys h.1 k)
 
-joined_still : (A : List Event → Type 0) → ((xs : List Event) → A xs → AreStillEvents xs) → (parts : List (List Event))
-    → All A parts → AreStillEvents (joined parts)
-joined_still A each [] all = tt
-joined_still A each (part ∷ parts) all =
-    events_both part (joined parts) (each part (All-head A part parts all))
-    (joined_still A each parts (All-tail A part parts all))
+module _ (P : Event → Type 0) where
+  joined_all : (A : List Event → Type 0) → ((xs : List Event) → A xs → AllByRecursion P xs)
+      → (parts : List (List Event)) → All A parts → AllByRecursion P (joined parts)
+  joined_all A each [] all = tt
+  joined_all A each (part ∷ parts) all =
+      all_then P part (joined parts) (each part (All-head A part parts all))
+      (joined_all A each parts (All-tail A part parts all))
+
+  many_all : (A : List Event → Type 0) → ((xs : List Event) → A xs → AllByRecursion P xs) → (told : List Event)
+      → many A told → AllByRecursion P told
+  many_all A each told h = subst (AllByRecursion P) (sym h.told_are) (joined_all A each h.parts h.are_each)
+
+  one_all : (event : Event) (told : List Event) → P event → told ≡ event ∷ [] → AllByRecursion P told
+  one_all event told h e = subst (AllByRecursion P) (sym e) (h, tt)
 
 pub many_still : (A : List Event → Type 0) → ((xs : List Event) → A xs → AreStillEvents xs) → (told : List Event)
     → many A told → AreStillEvents told
-many_still A each told h = subst AreStillEvents (sym h.told_are) (joined_still A each h.parts h.are_each)
+many_still = many_all IsStillEvent
 
 pub one_still : (event : Event) (told : List Event) → IsStillEvent event → told ≡ event ∷ [] → AreStillEvents told
-one_still event told h e = subst AreStillEvents (sym e) (h, tt)
+one_still = one_all IsStillEvent
 
-up_still : (lcid : ℕ) (told : List Event) → an_up lcid told → AreStillEvents told
-up_still lcid told (sdu, e) = one_still (events.Up lcid sdu) told tt e
+one_gone : (event : Event) (told : List Event) → IsGoneEvent event → told ≡ event ∷ [] → AreGoneEvents told
+one_gone = one_all IsGoneEvent
+
+up_gone : (lcid : ℕ) (told : List Event) → an_up lcid told → AreGoneEvents told
+up_gone lcid told (sdu, e) = one_gone (events.Up lcid sdu) told tt e
+
+sdu_gone : (lcid : ℕ) (told : List Event) → of_an_sdu lcid told → AreGoneEvents told
+sdu_gone lcid told (inl ups) = many_all IsGoneEvent (an_up lcid) (up_gone lcid) told ups
+sdu_gone lcid told (inr (inl e)) = one_gone (events.Drop lcid losts.Old) told tt e
+sdu_gone lcid told (inr (inr (inl e))) = one_gone (events.Drop lcid losts.Range) told tt e
+sdu_gone lcid told (inr (inr (inr (inl e)))) = one_gone (events.Drop lcid losts.Report) told tt e
+sdu_gone lcid told (inr (inr (inr (inr (inl (found, (wanted, e))))))) =
+    one_gone (events.Integrity lcid found wanted) told tt e
+sdu_gone lcid told (inr (inr (inr (inr (inr (fault, e)))))) = one_gone (events.BadPdcp lcid fault) told tt e
 
 pub sdu_still : (lcid : ℕ) (told : List Event) → of_an_sdu lcid told → AreStillEvents told
-sdu_still lcid told (inl ups) = many_still (an_up lcid) (up_still lcid) told ups
-sdu_still lcid told (inr (inl e)) = one_still (events.Drop lcid losts.Old) told tt e
-sdu_still lcid told (inr (inr (inl e))) = one_still (events.Drop lcid losts.Range) told tt e
-sdu_still lcid told (inr (inr (inr (inl e)))) = one_still (events.Drop lcid losts.Report) told tt e
-sdu_still lcid told (inr (inr (inr (inr (inl (found, (wanted, e))))))) =
-    one_still (events.Integrity lcid found wanted) told tt e
-sdu_still lcid told (inr (inr (inr (inr (inr (fault, e)))))) = one_still (events.BadPdcp lcid fault) told tt e
+sdu_still lcid told h = each_still IsGoneEvent IsStillEvent event_still told (sdu_gone lcid told h)
 
-end_still : (srb : Bool) (lcid : ℕ) (told : List Event) → at_the_end srb lcid told → AreStillEvents told
-end_still true lcid told h =
-    many_still (λ xs. xs ≡ events.Drop lcid losts.Handover ∷ [])
-    (λ xs e. one_still (events.Drop lcid losts.Handover) xs tt e) told h
-end_still false lcid told h = many_still (of_an_sdu lcid) (sdu_still lcid) told h
+end_gone : (srb : Bool) (lcid : ℕ) (told : List Event) → at_the_end srb lcid told → AreGoneEvents told
+end_gone true lcid told h =
+    many_all IsGoneEvent (λ xs. xs ≡ events.Drop lcid losts.Handover ∷ [])
+    (λ xs e. one_gone (events.Drop lcid losts.Handover) xs tt e) told h
+end_gone false lcid told h = many_all IsGoneEvent (of_an_sdu lcid) (sdu_gone lcid) told h
 
-leaving_still : (lcids : List ℕ) (told : List Event) → each (λ lcid. at_the_end (is_srb lcid) lcid) lcids told
-    → AreStillEvents told
-leaving_still [] told h = subst AreStillEvents (sym h) tt
-leaving_still (lcid ∷ lcids) told h =
-    subst AreStillEvents (sym h.told_are)
-    (events_both h.first h.second (end_still (is_srb lcid) lcid h.first h.is_first)
-    (leaving_still lcids h.second h.is_second))
+leaving_gone : (lcids : List ℕ) (told : List Event) → each (λ lcid. at_the_end (is_srb lcid) lcid) lcids told
+    → AreGoneEvents told
+leaving_gone [] told h = subst AreGoneEvents (sym h) tt
+leaving_gone (lcid ∷ lcids) told h =
+    subst AreGoneEvents (sym h.told_are)
+    (all_then IsGoneEvent h.first h.second (end_gone (is_srb lcid) lcid h.first h.is_first)
+    (leaving_gone lcids h.second h.is_second))
 
 -- ---- a handover
 
@@ -137,23 +186,34 @@ pub side_still : (side : Side) (told : List Event) → AreStillEvents told → A
 side_still side [] h = tt
 side_still side (event ∷ told) h = (h.0, side_still side told h.1)
 
-tells_still : (side : Side) (c : Channels) (told : List Record) → EndTells side (of_leaving c) told → AreStill told
-tells_still side c told h =
-    subst AreStill (sym h.told_is) (side_still side h.events (leaving_still c.by_lcid h.events h.in_order))
+side_gone : (side : Side) (told : List Event) → AreGoneEvents told → AreGone (map (records.Of side) told)
+side_gone side [] h = tt
+side_gone side (event ∷ told) h = (h.0, side_gone side told h.1)
 
-loop_one : (one : Record) → IsOfLoop one → IsStill one
+tells_gone : (side : Side) (c : Channels) (told : List Record) → EndTells side (of_leaving c) told → AreGone told
+tells_gone side c told h =
+    subst AreGone (sym h.told_is) (side_gone side h.events (leaving_gone c.by_lcid h.events h.in_order))
+
+loop_one : (one : Record) → IsOfLoop one → IsGone one
 loop_one (records.Looped lcid octets) h = tt
 loop_one (records.Of Ue (events.Drop lcid losts.Loop)) h = tt
 loop_one one h = absurd h
 
+loop_gone : (told : List Record) → LoopTells told → AreGone told
+loop_gone [] h = tt
+loop_gone (one ∷ told) h = (loop_one one h.0, loop_gone told h.1)
+
+pub handover_gone : (c : Side → Channels) (told : List Record) → HandoverTells c told → AreGone told
+handover_gone c told h =
+    subst AreGone (sym h.told_are)
+    (all_then IsGone h.first h.second (tells_gone Nb (c Nb) h.first h.is_first)
+    (subst AreGone (sym h.is_second.told_are)
+    (all_then IsGone h.is_second.first h.is_second.second
+    (tells_gone Ue (c Ue) h.is_second.first h.is_second.is_first)
+    (loop_gone h.is_second.second h.is_second.is_second))))
+
 pub loop_still : (told : List Record) → LoopTells told → AreStill told
-loop_still [] h = tt
-loop_still (one ∷ told) h = (loop_one one h.0, loop_still told h.1)
+loop_still told h = each_still IsGone IsStill record_still told (loop_gone told h)
 
 pub handover_still : (c : Side → Channels) (told : List Record) → HandoverTells c told → AreStill told
-handover_still c told h =
-    subst AreStill (sym h.told_are)
-    (still_both h.first h.second (tells_still Nb (c Nb) h.first h.is_first)
-    (subst AreStill (sym h.is_second.told_are)
-    (still_both h.is_second.first h.is_second.second (tells_still Ue (c Ue) h.is_second.first h.is_second.is_first)
-    (loop_still h.is_second.second h.is_second.is_second))))
+handover_still c told h = each_still IsGone IsStill record_still told (handover_gone c told h)

@@ -20,6 +20,7 @@ use Rattle.l2_node.specs.Writing.{new_block}
 use Rattle.l2_types.specs.declared.event.Clock.TheVariants.{Poll, Reorder}
 use Rattle.l2_types.specs.declared.side.Side.{Side}
 use Rattle.l2_types.specs.declared.side.Side.TheVariants.{Nb, Ue}
+use Rattle.pdcp_pdu.specs.declared.pdu.PdcpKind.{PdcpKind}
 use Rattle.pdu_show.specs.declared.kinds.Layout.{Layout}
 use Rattle.pdu_show.specs.declared.kinds.Layout.TheVariants as layouts
 use Rattle.promises.specs.Events.{is_on}
@@ -116,10 +117,10 @@ MayTakeAs more now (events.Expired lcid Poll) = now ≡ more
 MayTakeAs more now event = Unit {0}
 
 -- by a record of the side, where it tells of the channel's flows
-abbrev pub IsToldAt : ℕ → Side → Bool → Bool → Record → Type 0
-IsToldAt l side more now (records.Of own event) = tells_flow l event ≡ true
-    → (own ≡ side) × MayTakeAs more now event × HasCount event
-IsToldAt l side more now one = LeavesFlows l one
+abbrev pub IsToldAt : ℕ → Side → PdcpKind → Bool → Bool → Record → Type 0
+IsToldAt l side kind more now (records.Of own event) = tells_flow l event ≡ true
+    → (own ≡ side) × MayTakeAs more now event × HasCount kind event
+IsToldAt l side kind more now one = LeavesFlows l one
 
 -- they tell just what its bearer logs of the flows, which writes such PDUs
 pub record AreRecordsOf (kinds : List (Option Layout)) (l : ℕ) (side : Side) (b : State)
@@ -128,7 +129,7 @@ pub record AreRecordsOf (kinds : List (Option Layout)) (l : ℕ) (side : Side) (
   pub told : flow_events l xs ≡ filter tells (told_in log)
   pub writes : written_in log ≡ written
   pub each : AllByRecursion
-      (λ (x : ReadRecord). IsToldAt l side (has_more b.pdcp) x.more x.one) xs
+      (λ (x : ReadRecord). IsToldAt l side b.pdcp.kind (has_more b.pdcp) x.more x.one) xs
 
 -- ---- a step, of either end
 

@@ -8,6 +8,7 @@ use Rattle.l2_types.specs.declared.side.Side.{Side}
 use Rattle.rlc_pdu.specs.Pdus.{AmdPdu, StatusPdu, Payload, Status}
 use Rattle.rlc_am_tx_window.specs.Window.{TxWindow, next}
 use Rattle.pdcp_pdu.specs.declared.pdu.PdcpKind.{PdcpKind}
+use Rattle.pdcp_pdu.specs.declared.pdu.PdcpKind.TheVariants as pdcp
 use Rattle.pdu_show.specs.declared.kinds.Layout.{Layout}
 use Rattle.pdu_show.specs.declared.kinds.Layout.TheVariants as layouts
 use Rattle.bearer_types.specs.declared.event.Event.{Event}
@@ -29,17 +30,18 @@ use Rattle.law_sound.specs.LogLaws.{data_told, come_told, event_told}
 
 -- ---- an event
 
--- a `take` record has a COUNT of 32 bits, or none
-abbrev pub HasCount : Event → Type 0
-HasCount (events.Take lcid (Some count) len) = count < 2 ^ 32
-HasCount event = Unit {0}
+-- a `take` record of data has a COUNT of 32 bits, or none
+abbrev pub HasCount : PdcpKind → Event → Type 0
+HasCount pdcp.Srb event = Unit {0}
+HasCount kind (events.Take lcid (Some count) len) = count < 2 ^ 32
+HasCount kind event = Unit {0}
 
 -- of a channel with an acknowledged bearer
 abbrev pub EventsAreGathered : Type 0
 EventsAreGathered =
     (kinds : List (Option Layout)) (kind : PdcpKind) (more : Bool) (side : Side) (l : ℕ) (e : Event)
     (h : Histories) → slice_index_or kinds l None ≡ Some (layouts.Am kind) → is_on l e ≡ true
-    → HasCount e
+    → HasCount kind e
     → running ((all_told histories (told_by kinds more side e) h).acked side l)
     ≡ with_told (event_told kind more e) (running (h.acked side l))
 

@@ -27,3 +27,8 @@ pub mod BesideSteps
 pub mod LoggedRecords
 pub mod HeldLaws
 pub mod RecordLaws
+pub mod AlikeLaws
+pub mod NamedLogs
+pub mod NamedSteps
+pub mod StepReading
+pub mod GroupReading

@@ -46,4 +46,4 @@ abbrev pub ToldIsGathered : Type 0
 ToldIsGathered =
     (kinds : List (Option Layout)) (kind : PdcpKind) (more : Bool) (side : Side) (l : ℕ)
     (told : List Event) (h : Histories) → slice_index_or kinds l None ≡ Some (layouts.Am kind)
-    → AllByRecursion HasCount told → AreGatheredOver kinds kind more side l told h
+    → AllByRecursion (HasCount kind) told → AreGatheredOver kinds kind more side l told h

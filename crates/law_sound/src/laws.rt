@@ -34,6 +34,8 @@ ghost use Rattle.law_sound.specs.BesideLaws.{BearersBeginGathered, MovesAreGathe
 ghost use Rattle.law_sound.specs.BesideLaws.{OtherLinesLeave};
 ghost use Rattle.law_sound.specs.BesideSteps.{StepsAreGathered};
 ghost use Rattle.law_sound.specs.LoggedRecords.{RecordsTellTheLog, OwnRecordsTell};
+ghost use Rattle.law_sound.specs.StepReading.{StepsAreRead};
+ghost use Rattle.law_sound.specs.GroupReading.{GroupsAreRead};
 ghost use Rattle.law_sound.specs.NumberLaws.{NumbersAreGiven, NewPdusAreGathered};
 ghost use Rattle.law_sound.specs.SduLaws.{TakenAreTold};
 ghost use Rattle.law_sound.specs.AirSending.{EndsSendByAir};
@@ -322,4 +324,15 @@ pub fn records_stay_beside()
 pub fn records_tell_the_log()
     ensures told { RecordsTellTheLog }
     ensures own { OwnRecordsTell }
+{}
+
+/// So the records of any steps of a life take what is gathered from a moment of both ends to the
+/// one behind them, where they log what these steps do and each new block carries what is named
+/// before it: each STATUS of the channel that a new block carries is true of the flow that its side
+/// hears, and just those that are ignored as they come are told of. And so the records of each
+/// group do in the journal of every script, where no block was forged, on a channel with an
+/// acknowledged bearer.
+pub fn steps_are_read()
+    ensures steps { StepsAreRead }
+    ensures groups { GroupsAreRead }
 {}

@@ -14,6 +14,6 @@ pub use laws::{
     held_blocks_stay, lives_fail_rightly, lives_go_on, logs_tell_calls, logs_tell_flows,
     logs_tell_ignored, new_blocks_are_loaded, new_pdus_are_gathered, numbers_are_given,
     records_go_on, records_stay_beside, records_tell_the_log, reorderings_are_events,
-    reorderings_are_gathered, reports_are_gathered, runs_deliver, runs_tell_flows,
-    same_counts_come, statuses_are_gathered, taken_are_told, true_status_is_gathered,
+    reorderings_are_gathered, reports_are_gathered, runs_deliver, runs_tell_flows, same_counts_come,
+    statuses_are_gathered, steps_are_read, taken_are_told, true_status_is_gathered,
 };

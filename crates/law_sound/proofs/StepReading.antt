@@ -1,0 +1,312 @@
+-- All records of steps of a life take what is gathered to the moment behind them.
+use Rattle.std.proofs.Common.{◌≡◌, ℕ, ◌+◌, ◌%◌, ◌&&◌, Bool, true, false, if◌then◌else◌, List, [], ◌∷◌, ◌++◌, map}
+use Rattle.std.proofs.Common.{Option, Some, None, unwrap_or, slice_get, slice_index_or, append-nil, append_assoc}
+use Rattle.std.proofs.Common.{refl, ap, sym, subst, ◌∙◌, arith}
+use Rattle.std.specs.List.{AllByRecursion, filter}
+use Rattle.std.proofs.lemmas.Bool.{and_parts}
+use Rattle.std.proofs.lemmas.List.{map-append}
+use Rattle.air_record.specs.declared.record.Arrived.TheVariants.{Got}
+use Rattle.air_record.specs.declared.record.Record.{Record}
+use Rattle.air_record.specs.declared.record.Record.TheVariants as records
+use Rattle.bearer.specs.Acknowledged.State.{State, has_more}
+use Rattle.bearer.specs.declared.flow.Flow.{Flow}
+use Rattle.bearer.specs.declared.flow.Flow.TheVariants.{Am}
+use Rattle.bearer_types.specs.declared.event.Event.{Event}
+use Rattle.bearer_types.specs.Sides.{is_same, is_same_way, other, sender_of, sent_by, heard_by}
+use Rattle.harq.specs.declared.sender.Visit.{Visit}
+use Rattle.harq.specs.declared.sender.Visit.TheVariants.{New, Resend, Silent}
+use Rattle.l2_node.specs.Building.{visit, visited}
+use Rattle.l2_node.specs.End.{End}
+use Rattle.l2_node.specs.Finding.{has}
+use Rattle.l2_node.specs.Writing.{new_block}
+use Rattle.l2_types.specs.declared.side.Side.{Side}
+use Rattle.l2_types.specs.declared.side.Side.TheVariants.{Nb, Ue}
+use Rattle.law_bearer.specs.AnyBearer.Calls.{Call as BearerCall, Calls as BearerCalls, after_all, run_bearer}
+use Rattle.law_bearer.specs.AnyBearer.Calls.{after as bearer_after}
+use Rattle.law_deliver.specs.AmChannel.Lives.{AirStep, InLife, Moves, AreLiving, lives, lives_on, end_at, calls_at}
+use Rattle.law_deliver.specs.AmChannel.Lives.{brought, calls_by}
+use Rattle.law_deliver.specs.AmChannel.Arrival.{built_in}
+use Rattle.law_deliver.specs.AmFlow.Air.{Block, Station, Air, Act, Calls, Comes, Goes, Step, AtNb, AtUe, Passes}
+use Rattle.law_deliver.specs.AmFlow.Air.{built_at, does, happens, IsDone, IsGiven, IsCalling, IsVisiting}
+use Rattle.law_deliver.specs.AmFlow.Carrying.{CarriedPdu, Carried, Builds, with_built, written_on, behind_act}
+use Rattle.law_deliver.specs.AmFlow.Carrying.{behind_step}
+use Rattle.law_deliver.specs.AmFlow.Channels.{GoesOnInLife}
+use Rattle.law_deliver.specs.AmFlow.Ups.{calls_over}
+use Rattle.law_deliver.proofs.AmChannel.Ends.{step_end}
+use Rattle.law_deliver.proofs.AmFlow.Ups.{over_tells}
+use Rattle.law_deliver.proofs.AmFlow.Carrying.{front, rest}
+use Rattle.law_node.specs.Calls.{Call, Turn, Visits, Receive, IsGiven as IsGivenCall, run_end}
+use Rattle.law_node.specs.Holding.{flow}
+use Rattle.law_node.specs.Names.{mode}
+use Rattle.law_node.specs.Telling.{told_of}
+use Rattle.pdcp_pdu.specs.declared.pdu.PdcpKind.{PdcpKind}
+use Rattle.pdu_show.specs.declared.kinds.Layout.{Layout}
+use Rattle.pdu_show.specs.declared.kinds.Layout.TheVariants as layouts
+use Rattle.promises.specs.Names.{Mode, Acknowledged, SentPdu, sent_pdus}
+use Rattle.promises.specs.Pdus.{carried}
+use Rattle.promises.specs.RightForm.{is_built}
+use Rattle.promises.specs.SentNumbers.{AreNumbers}
+use Rattle.journal_account.specs.Acked.{ignored_in}
+use Rattle.journal_account.specs.FlowEvents.{FlowEvent}
+use Rattle.journal_lives.specs.LifeEvents.{running}
+use Rattle.journal_form.specs.Tests.{carries}
+use Rattle.journal_form.specs.Checking.{Building, builds, ends}
+use Rattle.journal_form.proofs.NewBlocks.{carries_is}
+use Rattle.journal_form.proofs.Units.{told_to, all_told, complete, sound, was_right}
+use Rattle.journal_flows.specs.FlowsTold.{Histories, histories}
+use Rattle.journal_flows.specs.Gathering.{Journal, Sending, sending_of, sent_last, behind_record}
+use Rattle.journal_status.specs.RightStatus.{ignored_told}
+use Rattle.law_run.specs.TwoEnds.ChannelLog.{on_channel, parted, HasRoom}
+use Rattle.law_run.specs.TwoEnds.Logs.{LogEntry, Tells, Hears, Flight, process_of, flight_behind, logged, logged_at}
+use Rattle.law_run.specs.TwoEnds.Logs.{all_tell, log_in, log_by, log_at, log_of, log_over, log_come}
+use Rattle.law_run.specs.TwoEnds.Logs.{Builds as EndBuilds}
+use Rattle.law_run.specs.TwoEnds.SenderLog.{BearerEntry, bearer_logs}
+use Rattle.law_run.specs.TwoEnds.Staying.{AreInLife}
+use Rattle.law_run.proofs.ChannelLogs.{sides_log_their_calls}
+use Rattle.law_run.proofs.Modes.{keeps_mode}
+use Rattle.law_run.proofs.TwoEnds.Going.{flight_in, flight_more, logged_more}
+use Rattle.law_sound.specs.BesideLaws.{ReadRecord, behind_all, IsGatheredBeside, IsGatheredBehind, IsSentLast, IsNamed}
+use Rattle.law_sound.specs.BesideLaws.{tells_flow, LeavesFlows, station_of, at_side, bearer_at, RecordsOfAct, AreRecordsOf, octets_of}
+use Rattle.law_sound.specs.BesideSteps.{AreOfStep, OfAct, OfComing, OfBuilding, OfTti}
+use Rattle.law_sound.specs.CarriedLaws.{parcels_on, parcels_of}
+use Rattle.law_sound.specs.HeldLaws.{AreHeldAs, held_parcels}
+use Rattle.law_sound.specs.IgnoredLaws.{told_ignored}
+use Rattle.law_sound.specs.LoadLaws.{name_of}
+use Rattle.law_sound.specs.LivedFails.{HasComeNew, HaveComeNew}
+use Rattle.law_sound.specs.LivedHistories.{AreLived, Moment, GoOver, behind_down, behind_up, coming_in, logged_in}
+use Rattle.law_sound.specs.LivedHistories.{LiveOn}
+use Rattle.law_sound.specs.LoggedRecords.{records_of, IsOwn, IsTold}
+use Rattle.law_sound.specs.NamedLogs.{named_over}
+use Rattle.law_sound.specs.StepReading.{read_as, HasCountOn, ignored_so_far, IsTrueOf, AreTrueAt, TellTruly, AreTruly, IsRead}
+use Rattle.law_sound.specs.StepReading.{AreFormed, AreReadTo, IsFlightOf, StepsAreRead}
+use Rattle.law_sound.proofs.BesideSteps.{steps_are_gathered, behind_last}
+use Rattle.law_sound.proofs.LivedFails.{AreThere, lived_there, step_of, stands_new}
+use Rattle.law_sound.proofs.LivedHistories.{none_at, lives_go_on_beside}
+use Rattle.law_sound.proofs.LogEntries.{logs_split, first_entry, entry_is}
+use Rattle.law_sound.proofs.LoggedRecords.{own_records_tell}
+use Rattle.law_sound.proofs.MovingFails.{lives_come_new}
+use Rattle.law_sound.proofs.NamedLogs.{records_name, events_name, ends_send_as_they_build, steps_leave_none_named}
+use Rattle.law_sound.proofs.NamedNumbers.{calls_are_numbered, other_records_write_none}
+use Rattle.law_sound.proofs.NamedSteps.{telling_sends_none}
+use Rattle.law_sound.proofs.OtherRecords.{other_records_leave}
+use Rattle.law_sound.proofs.StepLogs.{none_named, going_comes, none_comes, resends_none, silent_none}
+use Rattle.law_sound.proofs.StepLogs.{next}
+use Rattle.law_sound.proofs.StepReads.{Reads, both_read, silent_read, step_read}
+use Rattle.law_sound.proofs.StepActs.{call_read, rest_read, got_read, built_read}
+use Rattle.law_sound.proofs.StepNames.{processes_known, told_more, with_sent, sent_of, names_told, silent_all}
+use Rattle.law_sound.proofs.StepRecords.{records_read, plain_logs, building_log, logs_are, plain_records}
+use Rattle.law_sound.proofs.StepRecords.{coming_records, building_records, all_told_by, are_records}
+use Rattle.law_sound.proofs.StepStatuses.{ignored_next, ignored_both, record_quiet, records_counted, IsPlain, own_plain, plain_truly, then_truly}
+use Rattle.law_sound.proofs.StepStatuses.{same_truly, plain_same}
+use Rattle.law_sound.proofs.StepTrueStatuses.{held_true, nb_writes_truly, ue_writes_truly, up_stays, down_stays}
+
+-- ---- any records of a step
+
+module _ (kinds : List (Option Layout)) (kind : PdcpKind) (l : ℕ)
+    (known : slice_index_or kinds l None ≡ Some (layouts.Am kind)) (a : Air) (m : Moment) (sent : Flight)
+    (j : Journal Histories) (r : IsRead kind l a m j) (flight : IsFlightOf j sent) where
+  flight_is : (side : Side) → (sending_of side j).process ≡ process_of side sent
+  flight_is Nb = flight.nb_is
+  flight_is Ue = flight.ue_is
+
+  abbrev Right : List Record → Type 0
+  Right told = (side : Side) → (ends (all_told side kinds told none_named)).right ≡ true
+
+  -- behind some that log nothing, which stand first
+  behind_silent : (silent told : List Record) → logged sent silent ≡ [] → (s : Step)
+      → ((i : Journal Histories) → (q : IsRead kind l a m i)
+      → ((side : Side) → (sending_of side i).process ≡ process_of side (flight_in silent sent))
+      → Reads kinds kind l i (happens a s) (next l a m s q.lived) told)
+      → Reads kinds kind l j (happens a s) (next l a m s r.lived) (silent ++ told)
+  behind_silent silent told none s more =
+      let p = silent_read kinds kind l a m sent j silent r none in
+      let i = behind_all kinds p.all.reads j in
+      both_read kinds kind l j a (happens a s) m (next l a m s r.lived) silent told p.all
+      (subst (λ (h : AreLived l a m.pdus m.down m.up). Reads kinds kind l i (happens a s) (next l a m s h) told) p.same
+      (more i p.all.read
+      (λ side. processes_known kinds p.all.reads side j sent (flight_is side)
+      ∙ ap (λ (zs : List Record). process_of side (flight_in zs sent)) p.all.are)))
+
+  -- and before some
+  before_silent : (told silent : List Record) (b : Air) (n : Moment) → Reads kinds kind l j b n told
+      → logged (flight_in told sent) silent ≡ [] → Reads kinds kind l j b n (told ++ silent)
+  before_silent told silent b n p none =
+      both_read kinds kind l j b b n n told silent p
+      (silent_read kinds kind l b n (flight_in told sent) (behind_all kinds p.reads j) silent p.read none).all
+
+  coming_read : (side : Side) (k : ℕ) (block : Block) (told : List Record)
+      → slice_get (station_of (other side) a).blocks k ≡ Some block → AllByRecursion (HasCountOn kind l) told
+      → logged sent told ≡ Hears side block.process block.octets
+      ∷ all_tell side (told_of (station_of side a).end (Receive block.octets))
+      → Reads kinds kind l j (happens a (at_side side (Comes k))) (next l a m (at_side side (Comes k)) r.lived) told
+  coming_read side k block told at has logs =
+      let said = told_of (station_of side a).end (Receive block.octets) in
+      let f = first_entry told sent (Hears side block.process block.octets) (all_tell side said) logs in
+      let before = flight_in f.silent sent in
+      let e = entry_is before f.one (Hears side block.process block.octets) f.one_logs in
+      let counts = rest (HasCountOn kind l) f.silent (f.one ∷ f.behind)
+      (subst (AllByRecursion (HasCountOn kind l)) f.told_is has) in
+      subst (Reads kinds kind l j (happens a (at_side side (Comes k))) (next l a m (at_side side (Comes k)) r.lived))
+      (sym (f.told_is ∙ ap (λ (one : Record). f.silent ++ one ∷ f.behind) e.is))
+      (behind_silent f.silent (records.Air (heard_by side) Got e.heard ∷ f.behind) f.silent_logs
+      (at_side side (Comes k))
+      (λ i q process.
+      got_read kinds kind l known a m before i q side k block e.heard f.behind at (process (other side) ∙ e.process_is) counts.1
+      (ap (logged_at before) (sym e.is) ∙ f.one_logs)
+      (ap (λ (one : Record). logged (flight_behind one before) f.behind) (sym e.is) ∙ f.behind_logs)))
+
+  building_read : (side : Side) (x : Act) (bs : Builds (station_of side a).end x) (told others : List Record)
+      → IsDone l (station_of side a) x → AllByRecursion (HasCountOn kind l) told → Right (told ++ others)
+      → logged sent told ≡ log_by side (station_of (other side) a) (station_of side a).end x
+      → Reads kinds kind l j (happens a (at_side side x)) (next l a m (at_side side x) r.lived) told
+  building_read side x bs told others done has right logs =
+      let e = (station_of side a).end in
+      let o = station_of (other side) a in
+      let said = told_of e (Visits bs.turn) in
+      let process = bs.turn.tti % 8 in
+      let octets = octets_of (station_of side a) x bs in
+      let log : logged sent told ≡ all_tell side said ++ EndBuilds side process octets ∷ [] =
+      logs ∙ (ap (log_by side o e) bs.is ∙ building_log side 0 e bs.turn bs.new) in
+      let p = logs_split told sent (all_tell side said) (EndBuilds side process octets ∷ []) log in
+      let f = first_entry p.behind (flight_in p.first sent) (EndBuilds side process octets) [] p.behind_logged in
+      let xs = p.first ++ f.silent in
+      let before = flight_in f.silent (flight_in p.first sent) in
+      let same : flight_in xs sent ≡ before = sym (flight_more p.first f.silent sent) in
+      let b = entry_is before f.one (EndBuilds side process octets) f.one_logs in
+      let block = records.Block (sent_by side) process true b.version octets in
+      let tells : logged sent xs ≡ all_tell side said =
+      logged_more sent p.first f.silent
+      ∙ (ap (λ (hs : List LogEntry). hs ++ logged (flight_in p.first sent) f.silent) p.first_logged
+      ∙ (ap (λ (hs : List LogEntry). all_tell side said ++ hs) f.silent_logs ∙ append-nil (all_tell side said))) in
+      let told_is : told ≡ (xs ++ block ∷ []) ++ f.behind =
+      p.told_is
+      ∙ (ap (λ (zs : List Record). p.first ++ zs) (f.told_is ∙ ap (λ (one : Record). f.silent ++ one ∷ f.behind) b.is)
+      ∙ (sym (append_assoc p.first f.silent (block ∷ f.behind)) ∙ sym (append_assoc xs (block ∷ []) f.behind))) in
+      let last : logged_at (flight_in xs sent) block ≡ EndBuilds side process octets ∷ [] =
+      ap (λ (z : Flight). logged_at z block) same ∙ (ap (logged_at before) (sym b.is) ∙ f.one_logs) in
+      let counts = front (HasCountOn kind l) xs (block ∷ [])
+      (front (HasCountOn kind l) (xs ++ block ∷ []) f.behind
+      (subst (AllByRecursion (HasCountOn kind l)) told_is has)) in
+      let now : (ends (all_told side kinds (xs ++ block ∷ (f.behind ++ others)) none_named)).right ≡ true =
+      ap (λ (zs : List Record). (ends (all_told side kinds zs none_named)).right)
+      (sym (ap (λ (zs : List Record). zs ++ others) told_is
+      ∙ (append_assoc (xs ++ block ∷ []) f.behind others ∙ append_assoc xs (block ∷ []) (f.behind ++ others))))
+      ∙ right side in
+      let none : logged (flight_in (xs ++ block ∷ []) sent) f.behind ≡ [] =
+      ap (λ (z : Flight). logged z f.behind)
+      (sym (flight_more xs (block ∷ []) sent) ∙ ap (flight_behind block) same)
+      ∙ (ap (λ (one : Record). logged (flight_behind one before) f.behind) (sym b.is) ∙ f.behind_logs) in
+      subst (Reads kinds kind l j (happens a (at_side side x)) (next l a m (at_side side x) r.lived)) (sym told_is)
+      (before_silent (xs ++ block ∷ []) f.behind _ _
+      (built_read kinds kind l known a m sent j r side x bs xs (f.behind ++ others) b.version done counts tells now last) none)
+
+  -- an act of a side
+  side_read : (side : Side) (x : Act) (told others : List Record) → IsDone l (station_of side a) x
+      → AllByRecursion (HasCountOn kind l) told → Right (told ++ others)
+      → logged sent told ≡ log_by side (station_of (other side) a) (station_of side a).end x
+      → Reads kinds kind l j (happens a (at_side side x)) (next l a m (at_side side x) r.lived) told
+  side_read side (Calls (Visits t)) told others done has right logs = by (visit t.tti t.order (station_of side a).end) refl
+    where
+      by : (v : Visit) → visit t.tti t.order (station_of side a).end ≡ v
+          → Reads kinds kind l j (happens a (at_side side (Calls (Visits t)))) (next l a m (at_side side (Calls (Visits t))) r.lived) told
+      by New q =
+          building_read side (Calls (Visits t)) (record { turn = t; is = refl; new = q }) told others done has right logs
+      by (Resend rv) q =
+          call_read kinds kind l known a m sent j r side (Visits t) told done (λ bs. resends_none t rv (station_of side a).end q bs) has logs
+      by Silent q =
+          call_read kinds kind l known a m sent j r side (Visits t) told done (λ bs. silent_none t (station_of side a).end q bs) has logs
+  side_read side (Calls c) told others done has right logs =
+      call_read kinds kind l known a m sent j r side c told done (λ bs. let no = bs.is in absurd cc) has logs
+  side_read side (Comes k) told others done has right logs = by (slice_get (station_of (other side) a).blocks k) refl
+    where
+      by : (o : Option Block) → slice_get (station_of (other side) a).blocks k ≡ o
+          → Reads kinds kind l j (happens a (at_side side (Comes k))) (next l a m (at_side side (Comes k)) r.lived) told
+      by None q =
+          rest_read kinds kind l known a m sent j r side (Comes k) told tt (λ bs. let no = bs.is in absurd cc)
+          (none_comes l side k a m.pdus m.down m.up r.lived q) (ap brought q)
+          (ap (log_come side (station_of side a).end) q) has logs
+      by (Some block) q =
+          coming_read side k block told q has (logs ∙ ap (log_come side (station_of side a).end) q)
+  side_read side (Goes k) told others done has right logs =
+      rest_read kinds kind l known a m sent j r side (Goes k) told tt (λ bs. let no = bs.is in absurd cc) (going_comes side k m.pdus) refl
+      refl has logs
+
+  any_read : (s : Step) (told others : List Record) → IsGiven l a s → AllByRecursion (HasCountOn kind l) told
+      → Right (told ++ others) → logged sent told ≡ log_at a (InLife s)
+      → Reads kinds kind l j (happens a s) (next l a m s r.lived) told
+  any_read (AtNb x) told others g has right logs = side_read Nb x told others g has right logs
+  any_read (AtUe x) told others g has right logs = side_read Ue x told others g has right logs
+  any_read Passes told others g has right logs =
+      subst (Reads kinds kind l j (happens a Passes) (next l a m Passes r.lived)) (append-nil told)
+      (behind_silent told [] logs Passes
+      (λ i q process. step_read kinds kind l a m (flight_in told sent) i q Passes [] [] g refl refl (OfTti refl refl)
+      (λ now count. tt) (λ side. refl)))
+
+-- ---- all steps
+
+record Walked (kinds : List (Option Layout)) (kind : PdcpKind) (l : ℕ) (steps : List AirStep) (a : Air) (m : Moment)
+    (j : Journal Histories) (told : List Record) : Type 0 where
+  last : Moment
+  over : GoOver l steps a m last
+  all : Reads kinds kind l j (lives steps a) last told
+
+steps_read : StepsAreRead
+steps_read kinds kind l steps a m sent j told others known living life r flight logs has formed = record {
+  reads = w.all.reads;
+  are = w.all.are;
+  last = w.last;
+  over = w.over;
+  read = w.all.read;
+  statuses = w.all.statuses;
+  formed = λ side. sound side kinds others none_named
+      (ap (λ (b : Building). (ends (all_told side kinds others b)).right) (sym (w.all.none side))
+      ∙ (ap (λ (b : Building). (ends b).right) (sym (told_more side kinds told others none_named)) ∙ right side));
+}
+  where
+    right : (side : Side) → (ends (all_told side kinds (told ++ others) none_named)).right ≡ true
+    right side = complete side kinds (told ++ others) none_named refl (formed side)
+
+    walk : (steps : List AirStep) (a : Air) (m : Moment) (sent : Flight) (j : Journal Histories) (told : List Record)
+        → AreLiving l a steps → AreInLife steps → IsRead kind l a m j → IsFlightOf j sent
+        → logged sent told ≡ log_of steps a → AllByRecursion (HasCountOn kind l) told
+        → ((side : Side) → (ends (all_told side kinds (told ++ others) none_named)).right ≡ true)
+        → Walked kinds kind l steps a m j told
+    walk [] a m sent j told living life r flight logs has right = record {
+      last = m;
+      over = refl;
+      all = (silent_read kinds kind l a m sent j told r logs).all;
+    }
+    walk (InLife s ∷ steps) a m sent j told living life r flight logs has right =
+        let p = logs_split told sent (log_at a (InLife s)) (log_of steps (happens a s)) logs in
+        let one = subst (AllByRecursion (HasCountOn kind l)) p.told_is has in
+        let now : (side : Side) → (ends (all_told side kinds (p.first ++ (p.behind ++ others)) none_named)).right ≡ true =
+        λ side. ap (λ (zs : List Record). (ends (all_told side kinds zs none_named)).right)
+        (sym (ap (λ (zs : List Record). zs ++ others) p.told_is ∙ append_assoc p.first p.behind others))
+        ∙ right side in
+        let first = any_read kinds kind l known a m sent j r flight s p.first (p.behind ++ others) living.0
+        (front (HasCountOn kind l) p.first p.behind one) now p.first_logged in
+        let i = behind_all kinds first.reads j in
+        let process = λ (side : Side) (is : (sending_of side j).process ≡ process_of side sent).
+        processes_known kinds first.reads side j sent is
+        ∙ ap (λ (zs : List Record). process_of side (flight_in zs sent)) first.are in
+        let rest' = walk steps (happens a s) _ (flight_in p.first sent) i p.behind living.1 life first.read
+        (record { nb_is = process Nb flight.nb_is; ue_is = process Ue flight.ue_is }) p.behind_logged
+        (rest (HasCountOn kind l) p.first p.behind one)
+        (λ side. ap (λ (b : Building). (ends (all_told side kinds (p.behind ++ others) b)).right)
+        (sym (first.none side))
+        ∙ (ap (λ (b : Building). (ends b).right) (sym (told_more side kinds p.first (p.behind ++ others) none_named))
+        ∙ now side)) in
+        record {
+          last = rest'.last;
+          over = (r.lived, rest'.over);
+          all = subst (Reads kinds kind l j (lives (InLife s ∷ steps) a) rest'.last) (sym p.told_is)
+              (both_read kinds kind l j (happens a s) (lives steps (happens a s)) _ rest'.last p.first p.behind
+              first rest'.all);
+        }
+    walk (Moves keys ∷ steps) a m sent j told living life r flight logs has right = absurd life
+
+    w : Walked kinds kind l steps a m j told
+    w = walk steps a m sent j told living life r flight logs has right
+
+pub steps_are_read : StepsAreRead
+steps_are_read = steps_read
