@@ -82,7 +82,7 @@ channel_delivered may_take past from lcid config low h waits hand is kind =
 
 -- ---- any channel
 
-bearer_is : (lcid : ℕ) (past : List Group) → bearer_on lcid past ≡ config_of lcid past
+pub bearer_is : (lcid : ℕ) (past : List Group) → bearer_on lcid past ≡ config_of lcid past
 bearer_is lcid [] = refl
 bearer_is lcid (g ∷ past) = by g.line (bearer_is lcid past)
   where

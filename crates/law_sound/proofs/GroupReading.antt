@@ -206,7 +206,7 @@ mode_at side c keys e acked h =
 
 -- ---- what is gathered alike
 
-reads_alike : (may_take : MayTake) (past : List Group) (ks : List (Option Layout)) (reads : List ReadRecord)
+pub reads_alike : (may_take : MayTake) (past : List Group) (ks : List (Option Layout)) (reads : List ReadRecord)
     (before : List Record) (i j : Journal Histories) → AreAlikeJournals i j
     → AreAlikeJournals (behind_records histories may_take past ks before (records_of reads) i) (behind_all ks reads j)
 reads_alike may_take past ks [] before i j h = h

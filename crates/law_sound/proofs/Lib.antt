@@ -83,3 +83,8 @@ pub mod StepReads
 pub mod StepActs
 pub mod StepReading
 pub mod GroupReading
+pub mod UnackedBearers
+pub mod UnackedEnds
+pub mod Elsewhere
+pub mod ElsewhereRight
+pub mod GroupStatuses

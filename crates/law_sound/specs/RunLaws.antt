@@ -1,9 +1,10 @@
--- How the run of a script tells of its flows, and so what it hands up of acknowledged data: of each
--- journal as it is promised of every script.
+-- How the run of a script tells of its flows, and so what it hands up of acknowledged data, and what
+-- its STATUS PDUs say: of each journal as it is promised of every script.
 use Rattle.std.specs.Prelude.{◌≡◌, ℕ, Bool, false, List}
 use Rattle.air_run.specs.Journal.{RunPlayed}
 use Rattle.promises.specs.Delivery.{is_forged}
 use Rattle.journal_flows.specs.Gathering.{MayTake}
+use Rattle.journal_status.specs.RightStatus.{StatusIsRight}
 use Rattle.journal_delivered.specs.RightDelivery.{DeliveredIsRight}
 use Rattle.law_run.specs.Promises.{IsPromised}
 use Rattle.law_sound.specs.ComingLaws.{TellsFlows}
@@ -19,3 +20,8 @@ RunsDeliver =
     (may_take : MayTake) (whole : Bool) (octets : List ℕ) (played : RunPlayed)
     (p : IsPromised whole octets played) → is_forged p.past ≡ false
     → DeliveredIsRight may_take p.past
+
+abbrev pub RunsReportTruly : Type 0
+RunsReportTruly =
+    (may_take : MayTake) (whole : Bool) (octets : List ℕ) (played : RunPlayed)
+    (p : IsPromised whole octets played) → is_forged p.past ≡ false → StatusIsRight may_take p.past

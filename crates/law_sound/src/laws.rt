@@ -40,7 +40,11 @@ ghost use Rattle.law_sound.specs.NumberLaws.{NumbersAreGiven, NewPdusAreGathered
 ghost use Rattle.law_sound.specs.SduLaws.{TakenAreTold};
 ghost use Rattle.law_sound.specs.AirSending.{EndsSendByAir};
 ghost use Rattle.law_sound.specs.FailLaws.{LogsGoOn, ReceiversFailNone, FailsJoin};
-ghost use Rattle.law_sound.specs.RunLaws.{RunsTellFlows, RunsDeliver};
+ghost use Rattle.law_sound.specs.RunLaws.{RunsTellFlows, RunsDeliver, RunsReportTruly};
+ghost use Rattle.law_sound.specs.AlikeLaws.{AlikeLivesRunAlike, AlikeHistoriesTellAlike};
+ghost use Rattle.law_sound.specs.AlikeLaws.{AlikeJournalsGoOnAlike, JournalsAreAlike};
+ghost use Rattle.law_sound.specs.AlikeLaws.{StatusNeedsNoFlags};
+ghost use Rattle.law_sound.specs.ElsewhereLaws.{NoneStandsAbove, OthersTellNone, OthersAreRight};
 
 /// Which COUNTs have come of acknowledged data is the same by the octets of its PDUs and by the
 /// history of its flow.
@@ -335,4 +339,43 @@ pub fn records_tell_the_log()
 pub fn steps_are_read()
     ensures steps { StepsAreRead }
     ensures groups { GroupsAreRead }
+{}
+
+/// Histories are alike that differ only in whether an SDU might have been taken as t-PollRetransmit
+/// expired. So are those of the lives that run, and of two such VT(S) and VR(R) are the same; the
+/// same STATUS PDUs are true, and as many are ignored.
+pub fn alike_histories()
+    ensures lives { AlikeLivesRunAlike }
+    ensures tells { AlikeHistoriesTellAlike }
+{}
+
+/// So what is gathered of a journal stays alike, whatever is said there of these expiries, behind
+/// each record, each line and the end of each group: it is alike behind all of its groups, and
+/// behind the records of the newest one.
+pub fn alike_journals()
+    ensures steps { AlikeJournalsGoOnAlike }
+    ensures gathered { JournalsAreAlike }
+{}
+
+/// So whether the STATUS PDUs of a journal are right, as their checker asks it, doesn't depend on
+/// what is said of these expiries.
+pub fn status_needs_no_flags()
+    ensures { StatusNeedsNoFlags }
+{}
+
+/// In the journal of every script a side tells, of a channel without an acknowledged bearer, no
+/// `fail` record and no `drop` record of a STATUS that is ignored: so it does of each LCID above 10,
+/// where no bearer stands. So the records of both kinds are right there, as their checkers ask it.
+pub fn others_tell_none()
+    ensures channels { NoneStandsAbove }
+    ensures groups { OthersTellNone }
+    ensures right { OthersAreRight }
+{}
+
+/// So the STATUS PDUs in the journal of every script are right, as its checker asks it of any
+/// journal, through any losses, repeats, delays and handovers, where no block was forged: each that
+/// a new block carries is true of the flow that it speaks of, and just those that come with an ACK
+/// below VT(A) are ignored, as a `drop` record tells of each.
+pub fn runs_report_truly()
+    ensures { RunsReportTruly }
 {}
