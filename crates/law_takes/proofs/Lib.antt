@@ -1,0 +1,12 @@
+pub mod Numbered
+pub mod Kept
+pub mod Settling
+pub mod Waiting
+pub mod Turns
+pub mod Taking
+pub mod Lives
+pub mod Confirming
+pub mod Reporting
+pub mod Given
+pub mod Histories
+pub mod Deeds

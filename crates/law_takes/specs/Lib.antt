@@ -1,0 +1,3 @@
+pub mod Accounted
+pub mod Laws
+pub mod Histories
