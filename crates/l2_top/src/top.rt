@@ -3,12 +3,14 @@ ghost use Rattle.cli_words.specs.Commands.{command_of};
 ghost use Rattle.l2_top.specs.Main.{Does};
 ghost use Rattle.line_player.specs.Streams.{streams};
 ghost use Rattle.law_run.specs.Journals.{EveryJournal};
+ghost use Rattle.law_sound.specs.RunLaws.{RunsDeliver, RunsReportTruly};
 
 use crate::{Command, Status, Words};
 use check_command::check_journal;
 use l2_commands::{decode, generate, run};
 use l2_io::{Sink, Source};
 use law_run::every_journal;
+use law_sound::{runs_deliver, runs_report_truly};
 use line_player::{refuse_words, tell_no_memory};
 use std::alloc::Global;
 
@@ -37,7 +39,10 @@ fn obey<S: Source, K: Sink, E: Sink>(
 /// Runs the command that the words name.
 ///
 /// The clause `commands` says, by the command, what is written, and what each answer means;
-/// `promises` says what holds of every journal of a script, and is the law `every_journal`.
+/// `promises` says what holds of every journal of a script, and is the law `every_journal`. Where no
+/// line forged a block, `delivered` and `statuses` say that what goes up of acknowledged data, and the
+/// STATUS PDUs, are right in it as `l2 check` asks it of any journal (TS 36.323 5.1.2.1.2, 5.4, TS
+/// 36.322 5.2.3): the laws `runs_deliver` and `runs_report_truly`.
 pub fn l2_main<S: Source, K: Sink, E: Sink>(
     alloc: Global,
     words: &Words,
@@ -49,8 +54,12 @@ pub fn l2_main<S: Source, K: Sink, E: Sink>(
         (streams S.Source K.Sink E.Sink source.old out.old errs.old)
         (streams S.Source K.Sink E.Sink source.new out.new errs.new) result }
     ensures promises { EveryJournal }
+    ensures delivered { RunsDeliver }
+    ensures statuses { RunsReportTruly }
 {
     every_journal();
+    runs_deliver();
+    runs_report_truly();
     match words.command() {
         Ok(Some(command)) => obey(alloc, command, source, out, errs),
         Ok(None) => refuse_words(USAGE, errs),

@@ -88,3 +88,4 @@ pub mod UnackedEnds
 pub mod Elsewhere
 pub mod ElsewhereRight
 pub mod GroupStatuses
+pub mod KnownBearers

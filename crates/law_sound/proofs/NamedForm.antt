@@ -1,5 +1,5 @@
 -- A new block is canonical for what is read in it, and its SDUs are the PDUs that its end tells of.
-use Rattle.std.proofs.Common.{◌≡◌, ℕ, zero, suc, Option, Some, None, List, [], ◌∷◌, ◌++◌, length, map, replicate}
+use Rattle.std.proofs.Common.{◌≡◌, ℕ, zero, suc, Option, Some, None, List, [], ◌∷◌, ◌++◌, map, replicate}
 use Rattle.std.proofs.Common.{Bool, refl, ap, sym, subst, ◌∙◌}
 use Rattle.std.specs.Prelude.{slice_index_or}
 use Rattle.bearer_types.specs.Sides.{sent_by}
@@ -22,7 +22,6 @@ use Rattle.promises.specs.Built.{reported}
 use Rattle.promises.specs.Names.{SentPdu, sent_pdus, Mode, IsNamed, AreNamed}
 use Rattle.promises.specs.RightForm.{controls_in, sdus_in, unpadded, known_mode, mode_of, Carries}
 use Rattle.promises.specs.Shown.{IsKnownAs, AreKnown}
-use Rattle.law_deliver.specs.AmFlow.Air.{HasCome}
 use Rattle.law_node.specs.Blocks.{report, all_sdus}
 use Rattle.law_node.specs.Calls.{Turn, Call, Visits, IsGiven, AreGiven, reached}
 use Rattle.law_node.specs.Names.{modes_of}

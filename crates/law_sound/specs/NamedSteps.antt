@@ -23,7 +23,8 @@ use Rattle.journal_flows.specs.Gathering.{Journal, sending_of}
 use Rattle.law_deliver.specs.AmFlow.Air.{Air, Act, HasCome, IsDone}
 use Rattle.law_deliver.specs.AmFlow.Carrying.{Carried, Builds}
 use Rattle.law_deliver.specs.AmFlow.Channels.{GoesOnInLife}
-use Rattle.law_node.specs.Calls.{Turn, Call, Visits, IsGiven}
+use Rattle.law_node.specs.Bearers.{AddNone}
+use Rattle.law_node.specs.Calls.{Turn, Call, Visits, IsGiven, AreGiven, run_end}
 use Rattle.law_node.specs.Names.{modes_of}
 use Rattle.law_node.specs.Telling.{told_of}
 use Rattle.law_run.specs.TwoEnds.Logs.{Flight, logged, all_tell}
@@ -35,11 +36,11 @@ use Rattle.law_sound.specs.LoggedRecords.{records_of}
 
 -- ---- the numbers
 
--- behind records of which none sends a new block, VT(S) of each flow is as it was
 abbrev pub SendsNoNewBlock : Record → Type 0
 SendsNoNewBlock (records.Block direction process true rv octets) = ⊥
 SendsNoNewBlock one = Unit {0}
 
+-- behind such records VT(S) of each flow is as it was
 abbrev pub OtherRecordsWriteNone : Type 0
 OtherRecordsWriteNone =
     (kinds : List (Option Layout)) (side : Side) (l : ℕ) (xs : List ReadRecord)
@@ -64,6 +65,12 @@ NewBlocksHaveForm = (kinds : List (Option Layout)) (side : Side) (e : End) (t : 
     → AreKnown kinds (modes_of e)
     → Carries (sent_by side) kinds (sent_pdus (told_of e (Visits t)))
     (new_block (visited t.tti t.order e) t.grant)
+
+-- so they are behind calls that add none
+abbrev pub BearersStayKnown : Type 0
+BearersStayKnown = (kinds : List (Option Layout)) (side : Side) (e : End) (calls : List Call)
+    → HasCome side e → AreGiven calls → ((lcid : ℕ) → AddNone lcid calls)
+    → AreKnown kinds (modes_of e) → AreKnown kinds (modes_of (run_end calls e))
 
 -- ---- so, where none was named before, behind the records of what is told as it is built
 

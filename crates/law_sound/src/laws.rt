@@ -45,6 +45,11 @@ ghost use Rattle.law_sound.specs.AlikeLaws.{AlikeLivesRunAlike, AlikeHistoriesTe
 ghost use Rattle.law_sound.specs.AlikeLaws.{AlikeJournalsGoOnAlike, JournalsAreAlike};
 ghost use Rattle.law_sound.specs.AlikeLaws.{StatusNeedsNoFlags};
 ghost use Rattle.law_sound.specs.ElsewhereLaws.{NoneStandsAbove, OthersTellNone, OthersAreRight};
+ghost use Rattle.law_sound.specs.NamedLogs.{RecordsNameTheLog, EventsName, EndsSendAsTheyBuild};
+ghost use Rattle.law_sound.specs.NamedLogs.{StepsLeaveNoneNamed};
+ghost use Rattle.law_sound.specs.NamedSteps.{OtherRecordsWriteNone, CallsAreNumbered};
+ghost use Rattle.law_sound.specs.NamedSteps.{NewBlocksHaveForm, BearersStayKnown};
+ghost use Rattle.law_sound.specs.NamedSteps.{NewBlocksAreToldOf};
 
 /// Which COUNTs have come of acknowledged data is the same by the octets of its PDUs and by the
 /// history of its flow.
@@ -364,7 +369,7 @@ pub fn status_needs_no_flags()
 {}
 
 /// In the journal of every script a side tells, of a channel without an acknowledged bearer, no
-/// `fail` record and no `drop` record of a STATUS that is ignored: so it does of each LCID above 10,
+/// `fail` record and no `drop` record of a STATUS that is ignored: so it is of each LCID above 10,
 /// where no bearer stands. So the records of both kinds are right there, as their checkers ask it.
 pub fn others_tell_none()
     ensures channels { NoneStandsAbove }
@@ -378,4 +383,27 @@ pub fn others_tell_none()
 /// below VT(A) are ignored, as a `drop` record tells of each.
 pub fn runs_report_truly()
     ensures { RunsReportTruly }
+{}
+
+/// What is named of a side behind records is what their log tells of it: the PDUs that its end
+/// tells of as sent since its last new block. An end tells of none but as it builds a block, which
+/// has them all: so behind each step of both ends none is named that isn't in a block.
+pub fn records_name_the_log()
+    ensures records { RecordsNameTheLog }
+    ensures events { EventsName }
+    ensures calls { EndsSendAsTheyBuild }
+    ensures steps { StepsLeaveNoneNamed }
+{}
+
+/// So, where an end builds a new block at a moment of lives of two ends over the air, the `send`
+/// records before the block name just its PDUs: the block is canonical and carries them as they are
+/// named, where the bearers of the end are known as what they are, as they stay in calls that add
+/// none; and new ones of an acknowledged channel have the numbers from VT(S) on, as it is gathered,
+/// which only new blocks change.
+pub fn new_blocks_are_told_of()
+    ensures others { OtherRecordsWriteNone }
+    ensures numbers { CallsAreNumbered }
+    ensures form { NewBlocksHaveForm }
+    ensures known { BearersStayKnown }
+    ensures named { NewBlocksAreToldOf }
 {}
