@@ -39,10 +39,10 @@ fn obey<S: Source, K: Sink, E: Sink>(
 /// Runs the command that the words name.
 ///
 /// The clause `commands` says, by the command, what is written, and what each answer means;
-/// `promises` says what holds of every journal of a script, and is the law `every_journal`. Where no
-/// line forged a block, `delivered` and `statuses` say that what goes up of acknowledged data, and the
-/// STATUS PDUs, are right in it as `l2 check` asks it of any journal (TS 36.323 5.1.2.1.2, 5.4, TS
-/// 36.322 5.2.3): the laws `runs_deliver` and `runs_report_truly`.
+/// `promises` says what holds of every journal of a script, and is the law `every_journal`. Where
+/// no line forged a block, `delivered` and `statuses` say that what goes up of acknowledged data,
+/// and the STATUS PDUs, are right in it as `l2 check` asks it of any journal (TS 36.323 5.1.2.1.2,
+/// 5.4, TS 36.322 5.2.3): the laws `runs_deliver` and `runs_report_truly`.
 pub fn l2_main<S: Source, K: Sink, E: Sink>(
     alloc: Global,
     words: &Words,

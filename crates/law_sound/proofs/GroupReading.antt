@@ -1,208 +1,88 @@
 -- Line by line, what is gathered of a journal stays beside both ends on a channel with an acknowledged bearer, from the
 -- line on in which its bearers come.
-use Rattle.std.proofs.Common.{◌≡◌, ◌≤◌, ◌<◌, ◌^◌, ℕ, ◌+◌, ◌==◌, Bool, true, false, ◌||◌, if◌then◌else◌, List, [], ◌∷◌}
-use Rattle.std.proofs.Common.{◌++◌, map, length, Option, Some, None, append-nil, append_assoc, refl, ap, sym, subst, ◌∙◌}
-use Rattle.std.proofs.Common.{arith, inl, inr}
+use Rattle.std.proofs.Common.{◌≡◌, ◌≤◌, ℕ, Bool, true, false, ◌||◌, if◌then◌else◌, List, [], ◌∷◌}
+use Rattle.std.proofs.Common.{◌++◌, length, Option, Some, None, append-nil, append_assoc, refl, ap, sym, subst, ◌∙◌}
+use Rattle.std.proofs.Common.{arith}
 use Rattle.std.specs.Prelude.{slice_index_or}
-use Rattle.std.specs.List.{AllByRecursion, All, filter}
-use Rattle.std.proofs.lemmas.Bool.{eqb-true, eq-eqb}
-use Rattle.std.proofs.lemmas.List.Elements.{All-nil}
+use Rattle.std.specs.List.{AllByRecursion}
+use Rattle.std.proofs.lemmas.Bool.{eq-eqb}
 use Rattle.air_link.specs.Link.{Link, end_of}
 use Rattle.air_record.specs.declared.line.Line.{Line}
 use Rattle.air_record.specs.declared.line.Line.TheVariants as lines
 use Rattle.air_record.specs.declared.record.Record.{Record}
 use Rattle.air_record.specs.declared.record.Record.TheVariants as records
 use Rattle.air_record.specs.Cells.{next_keys}
-use Rattle.air_run.specs.Playing.{keys_or_none, acted, played}
+use Rattle.air_run.specs.Playing.{keys_or_none, acted}
 use Rattle.air_run.specs.Run.{behind_line as link_line}
 use Rattle.air_text.specs.Groups.{Group}
-use Rattle.bearer.specs.Acknowledged.State.{State, fresh as fresh_am}
-use Rattle.bearer.specs.Bearer.{flow_of}
-use Rattle.bearer_pdcp.specs.Ends.{begun as begun_ends}
-use Rattle.bearer.specs.declared.flow.Flow.{Flow}
-use Rattle.bearer.specs.declared.flow.Flow.TheVariants.{Am}
 use Rattle.bearer_types.specs.declared.config.BearerConfig.{BearerConfig}
-use Rattle.bearer_types.specs.declared.event.Event.{Event}
-use Rattle.bearer_types.specs.declared.event.Event.TheVariants as events
 use Rattle.eps_sec.specs.declared.Keys.{Keys}
 use Rattle.l2_node.specs.End.{End}
-use Rattle.l2_types.specs.declared.channel.Kind.{Kind}
-use Rattle.l2_types.specs.declared.channel.Kind.TheVariants as bearers
 use Rattle.l2_types.specs.declared.side.Side.{Side}
 use Rattle.l2_types.specs.declared.side.Side.TheVariants.{Nb, Ue}
-use Rattle.law_words.specs.Sequences.{many, joined}
-use Rattle.promises.specs.Air.{ttis}
 use Rattle.promises.specs.Blocks.{kinds}
-use Rattle.promises.specs.Bearers.{IsCounted, TellsCount}
 use Rattle.promises.specs.Configs.{config_by, config_of}
 use Rattle.promises.specs.Delivery.{forges, is_forged, sets_timer}
-use Rattle.promises.specs.Events.{is_on}
-use Rattle.promises.specs.Names.{Mode, Acknowledged}
+use Rattle.promises.specs.Names.{Acknowledged}
 use Rattle.promises.specs.Arrival.{entries_ended}
 use Rattle.promises.specs.Parts.{is_handover, part_of_line}
-use Rattle.promises.specs.RightForm.{is_built, IsBuilt, HasForm}
 use Rattle.promises.specs.Telling.{channels}
 use Rattle.pdcp_pdu.specs.declared.pdu.PdcpKind.{PdcpKind}
-use Rattle.pdcp_pdu.specs.declared.pdu.PdcpKind.TheVariants as pdcp
-use Rattle.pdu_show.specs.Kinds.{layout_of}
 use Rattle.pdu_show.specs.declared.kinds.Layout.{Layout}
 use Rattle.pdu_show.specs.declared.kinds.Layout.TheVariants as layouts
 use Rattle.prioritise.proofs.ChannelLemmas.{both_false}
 use Rattle.journal_flows.specs.FlowsTold.{Histories, histories, no_events}
-use Rattle.journal_flows.specs.Gathering.{Journal, Sending, MayTake, sending_of, nothing_sent, behind, behind_line, behind_end}
+use Rattle.journal_flows.specs.Gathering.{Journal, Sending, MayTake, sending_of, nothing_sent, behind, behind_line}
+use Rattle.journal_flows.specs.Gathering.{behind_end}
 use Rattle.journal_flows.specs.Gathering.{behind_record, behind_records, within}
 use Rattle.journal_flows.specs.Gathering as gathering
-use Rattle.journal_lives.specs.LifeEvents.{LifeEvent, running}
-use Rattle.journal_status.specs.RightStatus.{tells_ignored, ignored_told}
-use Rattle.l2_types.specs.declared.event.Lost.TheVariants as losts
-use Rattle.law_deliver.specs.AmChannel.Delivery.{HasBegun}
 use Rattle.law_deliver.specs.AmChannel.Lives.{AirStep, Moves, AreLiving, lives, lives_on, end_at}
-use Rattle.law_deliver.specs.AmFlow.Air.{Air, outset, Begins}
+use Rattle.law_deliver.specs.AmFlow.Air.{Air, outset}
 use Rattle.law_deliver.specs.AmFlow.Carrying.{carries_none}
-use Rattle.law_deliver.specs.AmFlow.Flows.{BeginsLife}
 use Rattle.law_deliver.proofs.AmFlow.Carrying.{front, rest}
 use Rattle.law_bearer.specs.AnyBearer.Calls.{Restart}
 use Rattle.law_deliver.proofs.AmFlow.Ups.{the_end}
-use Rattle.law_node.specs.Calls.{Move, after}
 use Rattle.law_node.specs.Holding.{flow}
 use Rattle.law_node.specs.Names.{mode}
 use Rattle.law_run.specs.AnyCalls.Calls as calls
 use Rattle.law_run.specs.AnyCalls.Runs.{Step, Calls, step}
 use Rattle.law_run.specs.Order.{state_behind, IsRight, KeepsOrder}
 use Rattle.law_run.specs.TwoEnds.Coming.{none_yet}
-use Rattle.law_run.specs.TwoEnds.Going.{GoesByAir, IsStepSince}
+use Rattle.law_run.specs.TwoEnds.Going.{IsStepSince}
 use Rattle.law_run.specs.TwoEnds.Lived.{IsAcknowledged}
 use Rattle.law_run.specs.TwoEnds.Logs.{Flight, logged, no_flight, log_of, LogAlone}
 use Rattle.law_run.specs.TwoEnds.On.{IsOn}
-use Rattle.law_run.specs.TwoEnds.Staying.{Stays, MovesOn, AreInLife, is_handover_step}
-use Rattle.law_run.proofs.BearerWalk.{adds_one, Comes, comes, behind_all as walk_all}
+use Rattle.law_run.specs.TwoEnds.Staying.{MovesOn, AreInLife, is_handover_step}
+use Rattle.law_run.proofs.BearerWalk.{adds_one, comes, behind_all as walk_all}
 use Rattle.law_run.proofs.BearersFirst.{bearers_begin_first}
-use Rattle.law_run.proofs.CountsTold.{counts_are_told}
 use Rattle.law_run.proofs.Flowing.{Sdus, Happened, StepLives, GoesThrough, PartLives, EndsDrain, line_stays}
 use Rattle.law_run.proofs.Knowing.{has_place}
 use Rattle.law_run.proofs.Modes.{keeps_mode}
 use Rattle.law_run.proofs.Past.{behind as past_behind, link_behind}
 use Rattle.law_run.proofs.Renewed.{line_by}
-use Rattle.law_run.proofs.RightForm.{form_is_right}
 use Rattle.law_run.proofs.Standing.{lines_tell}
 use Rattle.law_run.proofs.TwoEnds.Coming.{same_on}
 use Rattle.law_run.proofs.TwoEnds.Advancing.{steps_stay, handovers_move}
 use Rattle.law_sound.specs.AlikeLaws.{AreAlikeJournals}
-use Rattle.law_sound.specs.BesideLaws.{ReadRecord, behind_all, IsGatheredBeside, LeavesFlows, BeginsNone}
-use Rattle.law_sound.specs.GatherLaws.{HasCount}
+use Rattle.law_sound.specs.BesideLaws.{ReadRecord, behind_all, BeginsNone}
 use Rattle.law_sound.specs.GroupReading.{IsReadTruly, GroupsAreRead}
 use Rattle.law_sound.specs.LivedFails.{HaveComeNew}
 use Rattle.law_sound.specs.LivedHistories.{AreLived, Moment}
 use Rattle.law_sound.specs.LoggedRecords.{records_of}
-use Rattle.law_sound.specs.StepReading.{read_as, HasCountOn, ignored_so_far, AreTruly, IsRead, AreFormed, IsFlightOf}
+use Rattle.law_sound.specs.StepReading.{read_as, HasCountOn, AreTruly, IsRead, AreFormed, IsFlightOf}
 use Rattle.law_sound.proofs.AlikeJournals.{alike_journals}
 use Rattle.law_sound.proofs.BesideLives.{bearers_begin, moves_are_gathered, other_lines_leave}
-use Rattle.law_sound.proofs.Groups.{AreKinds, are_kinds, layout_by, AreSilent, sending_line, silent_sending}
+use Rattle.law_sound.proofs.Groups.{AreSilent, sending_line, silent_sending}
 use Rattle.law_sound.proofs.LivedFails.{lived_there, stands_new}
 use Rattle.law_sound.proofs.LivedHistories.{lives_begin_beside, moves_begin_beside}
 use Rattle.law_sound.proofs.MovingFails.{lives_come_new}
-use Rattle.law_sound.proofs.OtherRecords.{IsLeft, one_left, holds_same}
 use Rattle.law_sound.proofs.StepLogs.{all_then, records_then}
 use Rattle.law_sound.proofs.StepReading.{steps_are_read}
-use Rattle.law_sound.proofs.StepReads.{Reads, ReadsStill, both_truly, silent_read}
+use Rattle.law_sound.proofs.StepReads.{both_truly, silent_read}
 use Rattle.law_sound.proofs.StepRecords.{records_read}
-use Rattle.law_sound.proofs.StepStatuses.{IsPlain, plain_truly, plain_same, ignored_next}
-use Rattle.law_sound.proofs.Still.{IsGoneEvent, IsGone, AreGone, handover_gone}
-
--- ---- how PDUs of an acknowledged channel are read, and what is told of COUNTs
-
-abbrev of_kind : Kind → ℕ → PdcpKind
-of_kind bearers.Srb bits = pdcp.Srb
-of_kind kind bits = pdcp.Am bits
-
-layout_is : (kind : Kind) (rlc bits : ℕ) → IsAcknowledged kind
-    → Some (layout_of kind rlc bits) ≡ Some (layouts.Am (of_kind kind bits))
-layout_is bearers.Tm rlc bits h = absurd h
-layout_is bearers.Srb rlc bits h = refl
-layout_is bearers.Um rlc bits h = absurd h
-layout_is bearers.Am rlc bits h = refl
-
-known_at : (past : List Group) (l : ℕ) (c : BearerConfig) → l ≤ 10 → config_of l past ≡ Some c → IsAcknowledged c.kind
-    → slice_index_or (kinds past) l None ≡ Some (layouts.Am (of_kind c.kind c.pdcp_bits))
-known_at past l c low is acked =
-    (are_kinds past).is l low ∙ (ap layout_by is ∙ layout_is c.kind c.rlc_bits c.pdcp_bits acked)
-
-event_count : (bits l : ℕ) (e : Event) → IsCounted l e → is_on l e ≡ true → HasCount (pdcp.Am bits) e
-event_count bits l (events.Take lcid None len) h on = tt
-event_count bits l (events.Take lcid (Some count) len) h on = h (eqb-true lcid l on)
-event_count bits l e h on = tt
-
-record_counts : (bits l : ℕ) (told : List Record) → AllByRecursion (TellsCount l) told
-    → AllByRecursion (HasCountOn (pdcp.Am bits) l) told
-record_counts bits l [] h = tt
-record_counts bits l (records.Of side e ∷ told) h = (event_count bits l e h.0, record_counts bits l told h.1)
-record_counts bits l (one ∷ told) h = (tt, record_counts bits l told h.1)
-
-signal_counts : (l : ℕ) (told : List Record) → AllByRecursion (HasCountOn pdcp.Srb l) told
-signal_counts l [] = tt
-signal_counts l (records.Of side e ∷ told) = (λ on. tt, signal_counts l told)
-signal_counts l (one ∷ told) = (tt, signal_counts l told)
-
-counts_by : (kind : Kind) (bits l : ℕ) (told : List Record) → IsAcknowledged kind
-    → (kind ≡ bearers.Am → AllByRecursion (TellsCount l) told)
-    → AllByRecursion (HasCountOn (of_kind kind bits) l) told
-counts_by bearers.Tm bits l told acked h = absurd acked
-counts_by bearers.Srb bits l told acked h = signal_counts l told
-counts_by bearers.Um bits l told acked h = absurd acked
-counts_by bearers.Am bits l told acked h = record_counts bits l told (h refl)
-
-counts_at : (past : List Group) (g : Group) (l : ℕ) (c : BearerConfig) → KeepsOrder (g ∷ past)
-    → config_of l (g ∷ past) ≡ Some c → IsAcknowledged c.kind
-    → AllByRecursion (HasCountOn (of_kind c.kind c.pdcp_bits) l) g.events
-counts_at past g l c order is acked =
-    counts_by c.kind c.pdcp_bits l g.events acked (λ kind. (counts_are_told (g ∷ past) order).0 l c is kind)
-
-formed_at : (past : List Group) (g : Group) → KeepsOrder (g ∷ past) → AreFormed (kinds (g ∷ past)) g.events
-formed_at past g order side = by side
-  where
-    form : HasForm (kinds (g ∷ past)) g.events
-    form = (form_is_right (g ∷ past) order (lines_tell (g ∷ past) order)).0
-
-    by : (side : Side) → many (IsBuilt side (kinds (g ∷ past))) (filter (is_built side) g.events)
-    by Nb = form.down
-    by Ue = form.up
-
--- ---- a bearer that comes
-
-begins_life : (c : BearerConfig) (kind : PdcpKind) (keys : Keys) (side : Side) → BeginsLife (fresh_am c kind keys side)
-unfolding fresh_am
-begins_life c kind keys side = record { sends = refl; hears = refl }
-
-abbrev first_bearer : BearerConfig → Keys → Side → State
-first_bearer c keys side = fresh_am c (of_kind c.kind c.pdcp_bits) keys side
-
-first_is : (kind : Kind) (c : BearerConfig) (keys : Keys) (side : Side) → IsAcknowledged kind
-    → flow_of kind c keys side ≡ Am (fresh_am c (of_kind kind c.pdcp_bits) keys side)
-first_is bearers.Tm c keys side h = absurd h
-first_is bearers.Srb c keys side h = refl
-first_is bearers.Um c keys side h = absurd h
-first_is bearers.Am c keys side h = refl
-
-first_kind : (c : BearerConfig) (kind : PdcpKind) (keys : Keys) (side : Side)
-    → (fresh_am c kind keys side).pdcp.kind ≡ kind
-unfolding fresh_am begun_ends
-first_kind c kind keys side = refl
-
-begins_at : (side : Side) (c : BearerConfig) (keys : Keys) (e : End) → IsAcknowledged c.kind
-    → HasBegun side c.channel.lcid c keys e → Begins side c.channel.lcid e (first_bearer c keys side)
-begins_at side c keys e acked h = record {
-  come = h.come;
-  there = h.there;
-  bearer_is = h.bearer_is ∙ first_is c.kind c keys side acked;
-  life = begins_life c (of_kind c.kind c.pdcp_bits) keys side;
-}
-
-mode_at : (side : Side) (c : BearerConfig) (keys : Keys) (e : End) → IsAcknowledged c.kind
-    → HasBegun side c.channel.lcid c keys e
-    → mode (flow c.channel.lcid e) ≡ Acknowledged (of_kind c.kind c.pdcp_bits)
-mode_at side c keys e acked h =
-    ap mode (h.bearer_is ∙ first_is c.kind c keys side acked)
-    ∙ ap Acknowledged (first_kind c (of_kind c.kind c.pdcp_bits) keys side)
+use Rattle.law_sound.proofs.Still.{IsGone, AreGone, handover_gone}
+use Rattle.law_sound.proofs.GroupBearers.{known_at, counts_at, formed_at, begins_at, mode_at, of_kind, first_bearer}
+use Rattle.law_sound.proofs.GoneRecords.{gone_left, left_beside, gone_formed, gone_counts, gone_truly}
 
 -- ---- what is gathered alike
 
@@ -220,115 +100,6 @@ same_alike i = record {
   nb = refl;
   ue = refl;
 }
-
--- ---- records of a handover leave what is gathered
-
-gone_leaves : (l : ℕ) (one : Record) → IsGone one → LeavesFlows l one
-gone_leaves l (records.Of side (events.Up lcid sdu)) h = refl
-gone_leaves l (records.Of side (events.Drop lcid why)) h = refl
-gone_leaves l (records.Of side (events.Integrity lcid found wanted)) h = refl
-gone_leaves l (records.Of side (events.BadPdcp lcid fault)) h = refl
-gone_leaves l (records.Of side event) h = absurd h
-gone_leaves l (records.Block way process fresh version octets) h = absurd h
-gone_leaves l (records.Air way what heard) h = absurd h
-gone_leaves l one h = tt
-
-left_then : (l : ℕ) (i j k : Journal Histories) → IsLeft l i j → IsLeft l j k → IsLeft l i k
-left_then l i j k p q =
-    record { flow = λ side. p.flow side ∙ q.flow side; nb = p.nb ∙ q.nb; ue = p.ue ∙ q.ue }
-
-gone_left : (ks : List (Option Layout)) (l : ℕ) (reads : List ReadRecord) (j : Journal Histories)
-    → AllByRecursion (λ (x : ReadRecord). IsGone x.one) reads → IsLeft l (behind_all ks reads j) j
-gone_left ks l [] j gone = record { flow = λ side. refl; nb = refl; ue = refl }
-gone_left ks l (x ∷ reads) j gone =
-    let i = behind_record histories ks x.more x.one j in
-    left_then l _ i j (gone_left ks l reads i gone.1) (one_left ks x.more l x.one j (gone_leaves l x.one gone.0))
-
-left_beside : (l : ℕ) (a : Air) (m : Moment) (i j : Journal Histories) → IsLeft l i j
-    → IsGatheredBeside l a m.pdus m.down m.up i → IsGatheredBeside l a m.pdus m.down m.up j
-left_beside l a m i j left g = record {
-  down_is = ap (λ (es : List LifeEvent). running es) (sym (left.flow Nb)) ∙ g.down_is;
-  up_is = ap (λ (es : List LifeEvent). running es) (sym (left.flow Ue)) ∙ g.up_is;
-  by_nb = holds_same l i.nb j.nb a.nb.blocks m.pdus.nb (sym left.nb) g.by_nb;
-  by_ue = holds_same l i.ue j.ue a.ue.blocks m.pdus.ue (sym left.ue) g.by_ue;
-}
-
-gone_plain : (one : Record) → IsGone one → IsPlain one
-gone_plain (records.Block way process fresh version octets) h = absurd h
-gone_plain (records.Air way what heard) h = absurd h
-gone_plain one h = tt
-
-all_plain : (reads : List ReadRecord) → AllByRecursion (λ (x : ReadRecord). IsGone x.one) reads
-    → AllByRecursion (λ (x : ReadRecord). IsPlain x.one) reads
-all_plain [] gone = tt
-all_plain (x ∷ reads) gone = (gone_plain x.one gone.0, all_plain reads gone.1)
-
-gone_unbuilt : (side : Side) (one : Record) → IsGone one → is_built side one ≡ false
-gone_unbuilt side (records.Of own (events.Up lcid sdu)) h = refl
-gone_unbuilt side (records.Of own (events.Drop lcid why)) h = refl
-gone_unbuilt side (records.Of own (events.Integrity lcid found wanted)) h = refl
-gone_unbuilt side (records.Of own (events.BadPdcp lcid fault)) h = refl
-gone_unbuilt side (records.Of own event) h = absurd h
-gone_unbuilt side (records.Block way process fresh version octets) h = absurd h
-gone_unbuilt side (records.Air way what heard) h = absurd h
-gone_unbuilt side one h = refl
-
-unbuilt_all : (side : Side) (told : List Record) → AreGone told → filter (is_built side) told ≡ []
-unbuilt_all side [] h = refl
-unbuilt_all side (one ∷ told) h =
-    ap (λ (b : Bool). if b then one ∷ filter (is_built side) told else filter (is_built side) told)
-    (gone_unbuilt side one h.0)
-    ∙ unbuilt_all side told h.1
-
-gone_formed : (ks : List (Option Layout)) (told : List Record) → AreGone told → AreFormed ks told
-gone_formed ks told h side =
-    subst (many (IsBuilt side ks)) (sym (unbuilt_all side told h))
-    (record { parts = []; told_are = refl; are_each = All-nil (IsBuilt side ks) })
-
-gone_counts : (kind : PdcpKind) (l : ℕ) (told : List Record) → AreGone told → AllByRecursion (HasCountOn kind l) told
-gone_counts kind l [] h = tt
-gone_counts kind l (one ∷ told) h = (by one h.0, gone_counts kind l told h.1)
-  where
-    event : (k : PdcpKind) (e : Event) → IsGoneEvent e → HasCount k e
-    event pdcp.Srb e g = tt
-    event k (events.Take lcid count len) g = absurd g
-    event (pdcp.Um bits) e g = tt
-    event (pdcp.Am bits) e g = tt
-
-    by : (one : Record) → IsGone one → HasCountOn kind l one
-    by (records.Of side e) g = λ on. event kind e g
-    by one g = tt
-
-none_ignored : (side : Side) (l : ℕ) (told : List Record) → AreGone told → ignored_told side l told ≡ 0
-none_ignored side l [] h = refl
-none_ignored side l (one ∷ told) h =
-    let all = ignored_next side l one told in
-    let rest = none_ignored side l told h.1 in
-    let now = ap (λ (b : Bool). length (if b then one ∷ [] else [])) (silent one h.0) in
-    omega (arith, all, rest, now)
-  where
-    silent : (one : Record) → IsGone one → tells_ignored side l one ≡ false
-    silent (records.Of own (events.Drop lcid losts.Ignored)) g = absurd g
-    silent (records.Of own e) g = refl
-    silent one g = refl
-
-read_gone : (flag : Bool) (told : List Record) → AreGone told
-    → AllByRecursion (λ (x : ReadRecord). IsGone x.one) (read_as flag told)
-read_gone flag [] h = tt
-read_gone flag (one ∷ told) h = (h.0, read_gone flag told h.1)
-
--- they tell of no STATUS
-gone_truly : (ks : List (Option Layout)) (l : ℕ) (told : List Record) (j : Journal Histories) → AreGone told
-    → AreTruly ks l j (read_as false told)
-gone_truly ks l told j h =
-    let xs = read_as false told in
-    let plain = all_plain xs (read_gone false told h) in
-    let none = λ (side : Side). ap (ignored_told side l) (records_read false told) ∙ none_ignored side l told h in
-    record {
-      each = plain_truly ks l xs (λ side. ignored_so_far side l j) j plain
-          (λ side. let zero' = none side in omega (arith, zero'));
-      all = λ side. let zero' = none side in let same = plain_same ks l xs side j plain in omega (arith, zero', same);
-    }
 
 -- ---- lines
 
@@ -384,7 +155,8 @@ module _ (l : ℕ) (kind : PdcpKind) (ks : List (Option Layout)) (first : Journa
       → Gathers (told ++ more) others (lives steps air)
   gathers_more told more others air steps living life alone log g counts =
       let j = behind_all ks g.reads first in
-      let x = steps_are_read ks kind l steps air g.moment (flight_of j) j more others known living life g.read (flies_so j)
+      let x = steps_are_read ks kind l steps air g.moment (flight_of j) j more others known living life g.read
+      (flies_so j)
       (alone (flight_of j) ∙ sym log) counts g.formed in
       record {
         reads = g.reads ++ x.reads;
@@ -488,7 +260,8 @@ begins may_take past g c options right order acked =
       moment = record { pdus = carries_none; down = []; up = [] };
       on = x.early.rest;
       journal = j;
-      alike = subst (λ (told : List Record). AreAlikeJournals (behind_records histories may_take past (kinds all) [] told j)
+      alike = subst (λ (told : List Record). AreAlikeJournals
+          (behind_records histories may_take past (kinds all) [] told j)
           j) (sym none) (same_alike j);
       read = record {
         lived =
@@ -545,7 +318,8 @@ stays may_take c l past g right order other own here h =
     let x : PartLives l (Live l kind ks first known) (through l kind ks first known) [] none_yet (λ bits from. [])
     (false || sets_timer l g.line) (entries_ended g.line) (part_of_line g.line) m =
     line_stays l (Live l kind ks first known) (through l kind ks first known) [] none_yet (λ bits from. []) false g.line
-    (state_behind past).rules.keys (link_behind past) (past_behind past order).nothing right.in_range other own here live
+    (state_behind past).rules.keys (link_behind past)
+    (past_behind past order).nothing right.in_range other own here live
     in
     let events_are : g.events ≡ x.more ++ x.rest = right.events_are ∙ x.out_is in
     let q = x.lived.gathers x.rest (subst (AreFormed ks) events_are (formed_at past g (right, order)))
@@ -617,7 +391,8 @@ moves may_take c l past g user rrc integrity right order h =
     let x : MovesOn l keys k h.air = handovers_move l keys k h.air h.on in
     let gone = handover_gone (λ side. channels past) g.events (lines_tell all (right, order)).0 in
     let events_are : g.events ≡ x.leaving ++ x.behind =
-    right.events_are ∙ (x.out_is ∙ ap (λ (o : List Record). o ++ (x.leaving ++ x.behind)) (past_behind past order).nothing)
+    right.events_are
+    ∙ (x.out_is ∙ ap (λ (o : List Record). o ++ (x.leaving ++ x.behind)) (past_behind past order).nothing)
     in
     let behind_gone = rest IsGone x.leaving x.behind (subst AreGone events_are gone) in
     let told = read_as false g.events in

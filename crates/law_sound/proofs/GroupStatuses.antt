@@ -1,14 +1,14 @@
 -- The STATUS PDUs in a script's journal are right, as their checker asks it: on channels with an acknowledged bearer by
 -- what is read of its groups, and elsewhere there are none.
-use Rattle.std.proofs.Common.{◌≡◌, ◌≤◌, ◌<◌, ℕ, zero, suc, ◌+◌, ◌==◌, ◌&&◌, Bool, true, false, if◌then◌else◌, List, []}
-use Rattle.std.proofs.Common.{◌∷◌, ◌++◌, length, Option, Some, None, Result, Ok, Err, inl, inr, append-nil, refl, ap, sym, subst, ◌∙◌, arith}
+use Rattle.std.proofs.Common.{◌≡◌, ◌≤◌, ℕ, zero, suc, ◌+◌, Bool, true, false, if◌then◌else◌, List, []}
+use Rattle.std.proofs.Common.{◌∷◌, ◌++◌, length, Option, Some, None, Result, Ok, inl, inr, refl, ap, sym, subst, ◌∙◌}
+use Rattle.std.proofs.Common.{arith}
 use Rattle.std.specs.Prelude.{slice_index_or, slice_set, unwrap_or}
-use Rattle.std.specs.List.{All, AllByRecursion}
+use Rattle.std.specs.List.{AllByRecursion}
 use Rattle.std.proofs.lemmas.List.Elements.{All-from_recursion}
 use Rattle.std.proofs.lemmas.Bool.{cases_lt}
 use Rattle.air_record.specs.declared.record.Record.{Record}
 use Rattle.air_record.specs.declared.record.Record.TheVariants as records
-use Rattle.air_run.specs.Journal.{RunPlayed}
 use Rattle.air_text.specs.Groups.{Group}
 use Rattle.bearer_types.specs.Sides.{other, sender_of}
 use Rattle.bearer_types.specs.declared.config.BearerConfig.{BearerConfig}
@@ -38,31 +38,29 @@ use Rattle.promises.specs.Configs.{config_of}
 use Rattle.promises.specs.Delivery.{forges, is_forged}
 use Rattle.journal_account.specs.Acked.{ignored_in}
 use Rattle.journal_account.specs.FlowEvents.{FlowEvent}
-use Rattle.journal_account.specs.TrueStatus.{IsTrueStatus}
 use Rattle.journal_lives.specs.LifeEvents.{running}
 use Rattle.journal_flows.specs.declared.parcels.Parcel.{Parcel}
 use Rattle.journal_flows.specs.declared.parcels.Parcel.TheVariants.{Octets, Pieces, Report}
 use Rattle.journal_flows.specs.declared.sending.Named.{Named}
-use Rattle.journal_flows.specs.FlowsTold.{Histories, Flows, histories, no_events, flows_within}
+use Rattle.journal_flows.specs.FlowsTold.{Histories, Flows, histories, no_events}
 use Rattle.journal_flows.specs.Accounts.{is_acked_kind}
-use Rattle.journal_flows.specs.Gathering.{Journal, Sending, Loaded, MayTake, sending_of, sent_last, sdus_read, parcel_of, parcel_in}
+use Rattle.journal_flows.specs.Gathering.{Journal, Sending, Loaded, MayTake, sending_of, sent_last, sdus_read}
+use Rattle.journal_flows.specs.Gathering.{parcel_of, parcel_in}
 use Rattle.journal_flows.specs.Gathering.{loads_parcel, loads, behind, behind_line, behind_new, behind_record}
 use Rattle.journal_flows.specs.Gathering.{behind_records}
 use Rattle.journal_flows.specs.Laws.{bearer_on}
-use Rattle.journal_status.specs.RightStatus.{up_to, told_within, IsTrueReport, AreTrueReports, StatusesAreTrue}
+use Rattle.journal_status.specs.RightStatus.{up_to, IsTrueReport, StatusesAreTrue}
 use Rattle.journal_status.specs.RightStatus.{tells_ignored, ignored_told, ignored_by, ignored_within, AreIgnoredTold}
 use Rattle.journal_status.specs.RightStatus.{GroupStatusRight, StatusIsRight}
 use Rattle.law_run.specs.Order.{KeepsOrder}
-use Rattle.law_run.specs.Promises.{IsPromised}
 use Rattle.law_run.specs.TwoEnds.Lived.{IsAcknowledged}
 use Rattle.law_sound.specs.AlikeLaws.{AreAlikeJournals, TellAlike}
 use Rattle.law_sound.specs.BesideLaws.{ReadRecord, behind_all}
-use Rattle.law_sound.specs.ElsewhereLaws.{IsUnacked, TellsNone, TellsNoneElsewhere, TellNoneElsewhere}
+use Rattle.law_sound.specs.ElsewhereLaws.{IsUnacked, TellsNoneElsewhere, TellNoneElsewhere}
 use Rattle.law_sound.specs.GroupReading.{IsReadTruly}
 use Rattle.law_sound.specs.LoggedRecords.{records_of}
 use Rattle.law_sound.specs.RunLaws.{RunsReportTruly}
-use Rattle.law_sound.specs.StepReading.{ignored_so_far, IsTrueOf, AreTrueAt, TellTruly, AreTruly}
-use Rattle.law_sound.proofs.AlikeHistories.{alike_histories}
+use Rattle.law_sound.specs.StepReading.{ignored_so_far, IsTrueOf, AreTrueAt, TellTruly}
 use Rattle.law_sound.proofs.AlikeJournals.{tell_alike}
 use Rattle.law_sound.proofs.Delivering.{bearer_is}
 use Rattle.law_sound.proofs.Elsewhere.{others_tell_none}
@@ -102,7 +100,8 @@ parcel_known ks flows from s octets = by (slice_index_or ks s.lcid None) refl
     pieces next place hows.New (Ok pdu) = tt
     pieces next place how read = tt
 
-    by : (o : Option Layout) → slice_index_or ks s.lcid None ≡ o → IsKnownIn ks (parcel_in histories o flows from s octets)
+    by : (o : Option Layout) → slice_index_or ks s.lcid None ≡ o
+        → IsKnownIn ks (parcel_in histories o flows from s octets)
     by (Some (layouts.Am kind)) q = status kind _ _ s.how (am_at octets) q
     by (Some (layouts.Um bits kind)) q = pieces _ _ s.how (umd_at bits octets)
     by (Some layouts.Tm) q = tt

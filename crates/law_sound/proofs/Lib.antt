@@ -89,3 +89,5 @@ pub mod Elsewhere
 pub mod ElsewhereRight
 pub mod GroupStatuses
 pub mod KnownBearers
+pub mod GroupBearers
+pub mod GoneRecords

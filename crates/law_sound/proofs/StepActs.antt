@@ -1,104 +1,68 @@
 -- The records of an act of a side, of a block that comes to it, and of a new one that it builds.
-use Rattle.std.proofs.Common.{◌≡◌, ℕ, ◌+◌, ◌%◌, ◌&&◌, Bool, true, false, if◌then◌else◌, List, [], ◌∷◌, ◌++◌, map}
-use Rattle.std.proofs.Common.{Option, Some, None, unwrap_or, slice_get, slice_index_or, append-nil, append_assoc}
+use Rattle.std.proofs.Common.{◌≡◌, ℕ, ◌%◌, Bool, true, false, if◌then◌else◌, List, [], ◌∷◌, ◌++◌, map}
+use Rattle.std.proofs.Common.{Option, Some, None, slice_get, slice_index_or}
 use Rattle.std.proofs.Common.{refl, ap, sym, subst, ◌∙◌, arith}
-use Rattle.std.specs.List.{AllByRecursion, filter}
-use Rattle.std.proofs.lemmas.Bool.{and_parts}
-use Rattle.std.proofs.lemmas.List.{map-append}
+use Rattle.std.specs.List.{AllByRecursion}
 use Rattle.air_record.specs.declared.record.Arrived.TheVariants.{Got}
 use Rattle.air_record.specs.declared.record.Record.{Record}
 use Rattle.air_record.specs.declared.record.Record.TheVariants as records
 use Rattle.bearer.specs.Acknowledged.State.{State, has_more}
-use Rattle.bearer.specs.declared.flow.Flow.{Flow}
 use Rattle.bearer.specs.declared.flow.Flow.TheVariants.{Am}
 use Rattle.bearer_types.specs.declared.event.Event.{Event}
-use Rattle.bearer_types.specs.Sides.{is_same, is_same_way, other, sender_of, sent_by, heard_by}
-use Rattle.harq.specs.declared.sender.Visit.{Visit}
-use Rattle.harq.specs.declared.sender.Visit.TheVariants.{New, Resend, Silent}
-use Rattle.l2_node.specs.Building.{visit, visited}
-use Rattle.l2_node.specs.End.{End}
+use Rattle.bearer_types.specs.Sides.{is_same, other, sent_by, heard_by}
 use Rattle.l2_node.specs.Finding.{has}
-use Rattle.l2_node.specs.Writing.{new_block}
 use Rattle.l2_types.specs.declared.side.Side.{Side}
 use Rattle.l2_types.specs.declared.side.Side.TheVariants.{Nb, Ue}
-use Rattle.law_bearer.specs.AnyBearer.Calls.{Call as BearerCall, Calls as BearerCalls, after_all, run_bearer}
-use Rattle.law_bearer.specs.AnyBearer.Calls.{after as bearer_after}
-use Rattle.law_deliver.specs.AmChannel.Lives.{AirStep, InLife, Moves, AreLiving, lives, lives_on, end_at, calls_at}
+use Rattle.law_deliver.specs.AmChannel.Lives.{end_at}
 use Rattle.law_deliver.specs.AmChannel.Lives.{brought, calls_by}
-use Rattle.law_deliver.specs.AmChannel.Arrival.{built_in}
-use Rattle.law_deliver.specs.AmFlow.Air.{Block, Station, Air, Act, Calls, Comes, Goes, Step, AtNb, AtUe, Passes}
-use Rattle.law_deliver.specs.AmFlow.Air.{built_at, does, happens, IsDone, IsGiven, IsCalling, IsVisiting}
-use Rattle.law_deliver.specs.AmFlow.Carrying.{CarriedPdu, Carried, Builds, with_built, written_on, behind_act}
-use Rattle.law_deliver.specs.AmFlow.Carrying.{behind_step}
-use Rattle.law_deliver.specs.AmFlow.Channels.{GoesOnInLife}
+use Rattle.law_deliver.specs.AmFlow.Air.{Block, Station, Air, Act, Calls, Comes}
+use Rattle.law_deliver.specs.AmFlow.Air.{happens, IsDone}
+use Rattle.law_deliver.specs.AmFlow.Carrying.{Builds}
 use Rattle.law_deliver.specs.AmFlow.Ups.{calls_over}
-use Rattle.law_deliver.proofs.AmChannel.Ends.{step_end}
-use Rattle.law_deliver.proofs.AmFlow.Ups.{over_tells}
-use Rattle.law_deliver.proofs.AmFlow.Carrying.{front, rest}
-use Rattle.law_node.specs.Calls.{Call, Turn, Visits, Receive, IsGiven as IsGivenCall, run_end}
+use Rattle.law_node.specs.Calls.{Call, Visits, Receive}
 use Rattle.law_node.specs.Holding.{flow}
 use Rattle.law_node.specs.Names.{mode}
 use Rattle.law_node.specs.Telling.{told_of}
 use Rattle.pdcp_pdu.specs.declared.pdu.PdcpKind.{PdcpKind}
 use Rattle.pdu_show.specs.declared.kinds.Layout.{Layout}
 use Rattle.pdu_show.specs.declared.kinds.Layout.TheVariants as layouts
-use Rattle.promises.specs.Names.{Mode, Acknowledged, SentPdu, sent_pdus}
+use Rattle.promises.specs.Names.{Acknowledged, SentPdu, sent_pdus}
 use Rattle.promises.specs.Pdus.{carried}
-use Rattle.promises.specs.RightForm.{is_built}
 use Rattle.promises.specs.SentNumbers.{AreNumbers}
-use Rattle.journal_account.specs.Acked.{ignored_in}
-use Rattle.journal_account.specs.FlowEvents.{FlowEvent}
-use Rattle.journal_lives.specs.LifeEvents.{running}
 use Rattle.journal_form.specs.Tests.{carries}
-use Rattle.journal_form.specs.Checking.{Building, builds, ends}
+use Rattle.journal_form.specs.Checking.{Building, ends}
 use Rattle.journal_form.proofs.NewBlocks.{carries_is}
-use Rattle.journal_form.proofs.Units.{told_to, all_told, complete, sound, was_right}
+use Rattle.journal_form.proofs.Units.{told_to, all_told, was_right}
 use Rattle.journal_flows.specs.FlowsTold.{Histories, histories}
-use Rattle.journal_flows.specs.Gathering.{Journal, Sending, sending_of, sent_last, behind_record}
+use Rattle.journal_flows.specs.Gathering.{Journal, sending_of, behind_record}
 use Rattle.journal_status.specs.RightStatus.{ignored_told}
-use Rattle.law_run.specs.TwoEnds.ChannelLog.{on_channel, parted, HasRoom}
-use Rattle.law_run.specs.TwoEnds.Logs.{LogEntry, Tells, Hears, Flight, process_of, flight_behind, logged, logged_at}
-use Rattle.law_run.specs.TwoEnds.Logs.{all_tell, log_in, log_by, log_at, log_of, log_over, log_come}
+use Rattle.law_run.specs.TwoEnds.Logs.{LogEntry, Hears, Flight, flight_behind, logged, logged_at}
+use Rattle.law_run.specs.TwoEnds.Logs.{all_tell, log_by, log_come}
 use Rattle.law_run.specs.TwoEnds.Logs.{Builds as EndBuilds}
 use Rattle.law_run.specs.TwoEnds.SenderLog.{BearerEntry, bearer_logs}
-use Rattle.law_run.specs.TwoEnds.Staying.{AreInLife}
-use Rattle.law_run.proofs.ChannelLogs.{sides_log_their_calls}
-use Rattle.law_run.proofs.Modes.{keeps_mode}
-use Rattle.law_run.proofs.TwoEnds.Going.{flight_in, flight_more, logged_more}
-use Rattle.law_sound.specs.BesideLaws.{ReadRecord, behind_all, IsGatheredBeside, IsGatheredBehind, IsSentLast, IsNamed}
-use Rattle.law_sound.specs.BesideLaws.{tells_flow, LeavesFlows, station_of, at_side, bearer_at, RecordsOfAct, AreRecordsOf, octets_of}
-use Rattle.law_sound.specs.BesideSteps.{AreOfStep, OfAct, OfComing, OfBuilding, OfTti}
-use Rattle.law_sound.specs.CarriedLaws.{parcels_on, parcels_of}
-use Rattle.law_sound.specs.HeldLaws.{AreHeldAs, held_parcels}
-use Rattle.law_sound.specs.IgnoredLaws.{told_ignored}
+use Rattle.law_run.proofs.TwoEnds.Going.{flight_in, logged_more}
+use Rattle.law_sound.specs.BesideLaws.{ReadRecord, behind_all, IsGatheredBehind, IsSentLast, IsNamed}
+use Rattle.law_sound.specs.BesideLaws.{station_of, at_side, bearer_at, RecordsOfAct, AreRecordsOf, octets_of}
+use Rattle.law_sound.specs.BesideSteps.{OfAct, OfComing, OfBuilding}
 use Rattle.law_sound.specs.LoadLaws.{name_of}
-use Rattle.law_sound.specs.LivedFails.{HasComeNew, HaveComeNew}
-use Rattle.law_sound.specs.LivedHistories.{AreLived, Moment, GoOver, behind_down, behind_up, coming_in, logged_in}
-use Rattle.law_sound.specs.LivedHistories.{LiveOn}
+use Rattle.law_sound.specs.LivedHistories.{Moment, coming_in}
 use Rattle.law_sound.specs.LoggedRecords.{records_of, IsOwn, IsTold}
 use Rattle.law_sound.specs.NamedLogs.{named_over}
-use Rattle.law_sound.specs.StepReading.{read_as, HasCountOn, ignored_so_far, IsTrueOf, AreTrueAt, TellTruly, AreTruly, IsRead}
-use Rattle.law_sound.specs.StepReading.{AreFormed, AreReadTo, IsFlightOf, StepsAreRead}
-use Rattle.law_sound.proofs.BesideSteps.{steps_are_gathered, behind_last}
-use Rattle.law_sound.proofs.LivedFails.{AreThere, lived_there, step_of, stands_new}
-use Rattle.law_sound.proofs.LivedHistories.{none_at, lives_go_on_beside}
-use Rattle.law_sound.proofs.LogEntries.{logs_split, first_entry, entry_is}
+use Rattle.law_sound.specs.StepReading.{read_as, HasCountOn, ignored_so_far, TellTruly, IsRead}
+use Rattle.law_sound.proofs.BesideSteps.{behind_last}
 use Rattle.law_sound.proofs.LoggedRecords.{own_records_tell}
-use Rattle.law_sound.proofs.MovingFails.{lives_come_new}
-use Rattle.law_sound.proofs.NamedLogs.{records_name, events_name, ends_send_as_they_build, steps_leave_none_named}
+use Rattle.law_sound.proofs.NamedLogs.{records_name, events_name, ends_send_as_they_build}
 use Rattle.law_sound.proofs.NamedNumbers.{calls_are_numbered, other_records_write_none}
 use Rattle.law_sound.proofs.NamedSteps.{telling_sends_none}
-use Rattle.law_sound.proofs.OtherRecords.{other_records_leave}
 use Rattle.law_sound.proofs.StepLogs.{records_then, none_named, has_room, builds_none, flows_at, new_at}
 use Rattle.law_sound.proofs.StepLogs.{there_at, given_at, log_at_side, logged_at_side, kind_at, call_comes}
 use Rattle.law_sound.proofs.StepLogs.{block_carries, block_closes, next}
 use Rattle.law_sound.proofs.StepReads.{said_at, Counts, Reads, plain_all, there, step_read, block_true}
-use Rattle.law_sound.proofs.StepNames.{processes_known, told_more, with_sent, sent_of, names_told, silent_all}
-use Rattle.law_sound.proofs.StepRecords.{records_read, plain_logs, building_log, logs_are, plain_records}
+use Rattle.law_sound.proofs.StepNames.{told_more, with_sent, sent_of, names_told}
+use Rattle.law_sound.proofs.StepRecords.{records_read, plain_logs, building_log, plain_records}
 use Rattle.law_sound.proofs.StepRecords.{coming_records, building_records, all_told_by, are_records}
-use Rattle.law_sound.proofs.StepStatuses.{ignored_next, ignored_both, record_quiet, records_counted, IsPlain, own_plain, plain_truly, then_truly}
-use Rattle.law_sound.proofs.StepStatuses.{same_truly, plain_same}
-use Rattle.law_sound.proofs.StepTrueStatuses.{held_true, nb_writes_truly, ue_writes_truly, up_stays, down_stays}
+use Rattle.law_sound.proofs.StepStatuses.{ignored_next, ignored_both, record_quiet, IsPlain, plain_truly, then_truly}
+use Rattle.law_sound.proofs.StepStatuses.{plain_same}
 
 module _ (kinds : List (Option Layout)) (kind : PdcpKind) (l : ℕ)
     (known : slice_index_or kinds l None ≡ Some (layouts.Am kind)) (a : Air) (m : Moment) (sent : Flight)
@@ -189,7 +153,8 @@ module _ (kinds : List (Option Layout)) (kind : PdcpKind) (l : ℕ)
         let plain = plain_logs side 0 s c none done.2 in
         act_read (Calls c) told (told_of s.end c) done none (call_comes side c m.pdus)
         (of_side (Calls c) _ (read_as (has_more b.pdcp) told) [] refl
-        (plain_records kinds l side b knows s (new_at l side a r.new) (there_at l side a (there kinds kind l a m sent j r)) is c sent told done.0
+        (plain_records kinds l side b knows s (new_at l side a r.new)
+        (there_at l side a (there kinds kind l a m sent j r)) is c sent told done.0
         done.1 (has_room s c done.2) none done.2 logs (counted told has))) logs (logs ∙ plain)
         (ends_send_as_they_build s.end c (builds_none s.end c none))
 
@@ -236,7 +201,8 @@ module _ (kinds : List (Option Layout)) (kind : PdcpKind) (l : ℕ)
         ∙ ap (log_come side s.end) (sym at)) in
         let of = of_side x _ ys []
         (ap (λ (bs : Option Block). bearer_logs l (Am b) (calls_over l (brought bs) s.end)) (sym at))
-        (coming_records kinds l side b knows s (new_at l side a r.new) (there_at l side a (there kinds kind l a m sent j r)) is block.process
+        (coming_records kinds l side b knows s (new_at l side a r.new)
+        (there_at l side a (there kinds kind l a m sent j r)) is block.process
         block.octets (flight_behind got sent) told logs (counted told has)) in
         let own = own_records_tell l side (flight_behind got sent) ys
         (subst (AllByRecursion (IsTold side))
@@ -256,8 +222,7 @@ module _ (kinds : List (Option Layout)) (kind : PdcpKind) (l : ℕ)
             Counts kinds l j (record { more = air.more; one = one } ∷ ys)
             → TellTruly kinds l (said_at l j) j (record { more = air.more; one = one } ∷ ys)) (sym same)
             (λ count'.
-            let i = behind_record histories kinds air.more (records.Air (heard_by side) Got heard) j in
-            (
+            let i = behind_record histories kinds air.more (records.Air (heard_by side) Got heard) j in (
               tt,
               λ own q. let no : false ≡ true = q in absurd cc,
               plain_truly kinds l ys _ i plain
@@ -355,8 +320,7 @@ module _ (kinds : List (Option Layout)) (kind : PdcpKind) (l : ℕ)
         let still = plain_same kinds l rs own j plain in
         let told = ap (ignored_told own l) (records_then rs (new ∷ [])) in
         let parts = ignored_both own l (records_of rs) (new.one ∷ []) in
-        omega (arith, all, end', quiet, still, told, parts)))
-        (
+        omega (arith, all, end', quiet, still, told, parts))) (
           block_true kinds kind l a m sent j r side x bs done version new.more i
               (subst (IsGatheredBehind l a (at_side side x) m.pdus m.down m.up r.lived) last now),
           λ own q. let no : false ≡ true = q in absurd cc,
@@ -391,9 +355,11 @@ module _ (kinds : List (Option Layout)) (kind : PdcpKind) (l : ℕ)
         ∙ (sym (building_log side 0 s.end bs.turn bs.new) ∙ ap (log_by side o s.end) (sym bs.is)))) in
         let of = of_side x _ rs (carried l (sent_by side) octets)
         (ap (λ (y : Act). bearer_logs l (Am b) (calls_over l (calls_by o y) s.end)) (sym bs.is))
-        (building_records kinds l side b knows s (new_at l side a r.new) (there_at l side a (there kinds kind l a m sent j r)) is bs.turn sent xs
+        (building_records kinds l side b knows s (new_at l side a r.new)
+        (there_at l side a (there kinds kind l a m sent j r)) is bs.turn sent xs
         acts.0 acts.1 (has_room s (Visits bs.turn) acts.2) bs.new logs (counted xs has)) in
-        step_read kinds kind l a m sent j r (at_side side x) (xs ++ block ∷ []) (rs ++ new ∷ []) (given_at l side a x done)
+        step_read kinds kind l a m sent j r (at_side side x) (xs ++ block ∷ []) (rs ++ new ∷ [])
+        (given_at l side a x done)
         (records_then rs (new ∷ []) ∙ ap (λ (zs : List Record). zs ++ block ∷ []) (records_read flag xs))
         (log ∙ sym (log_at_side side a x))
         (OfBuilding side x bs flag version rs refl done refl of (names_it x bs xs logs done form))

@@ -1,30 +1,26 @@
 -- What a side logs in a step of a life on a channel is what its bearer does, whichever act it is; and a new block
 -- carries what was named before it.
-use Rattle.std.proofs.Common.{◌≡◌, ℕ, ◌+◌, ◌%◌, ◌&&◌, Bool, true, false, if◌then◌else◌, List, [], ◌∷◌, ◌++◌, map}
-use Rattle.std.proofs.Common.{Option, Some, None, unwrap_or, slice_get, slice_index_or, append-nil, append_assoc}
-use Rattle.std.proofs.Common.{refl, ap, sym, subst, ◌∙◌, arith}
-use Rattle.std.specs.List.{AllByRecursion, filter}
-use Rattle.std.proofs.lemmas.Bool.{and_parts}
+use Rattle.std.proofs.Common.{◌≡◌, ℕ, ◌%◌, Bool, true, false, List, [], ◌∷◌, ◌++◌, map}
+use Rattle.std.proofs.Common.{Option, Some, None, unwrap_or, slice_get, append-nil}
+use Rattle.std.proofs.Common.{refl, ap, sym, subst, ◌∙◌}
 use Rattle.std.proofs.lemmas.List.{map-append}
-use Rattle.air_record.specs.declared.record.Arrived.TheVariants.{Got}
 use Rattle.air_record.specs.declared.record.Record.{Record}
 use Rattle.air_record.specs.declared.record.Record.TheVariants as records
-use Rattle.bearer.specs.Acknowledged.State.{State, has_more}
+use Rattle.bearer.specs.Acknowledged.State.{State}
 use Rattle.bearer.specs.declared.flow.Flow.{Flow}
 use Rattle.bearer.specs.declared.flow.Flow.TheVariants.{Am}
 use Rattle.bearer_types.specs.declared.event.Event.{Event}
-use Rattle.bearer_types.specs.Sides.{is_same, is_same_way, other, sender_of, sent_by, heard_by}
+use Rattle.bearer_types.specs.Sides.{other, sent_by}
 use Rattle.harq.specs.declared.sender.Visit.{Visit}
 use Rattle.harq.specs.declared.sender.Visit.TheVariants.{New, Resend, Silent}
 use Rattle.l2_node.specs.Building.{visit, visited}
 use Rattle.l2_node.specs.End.{End}
 use Rattle.l2_node.specs.Finding.{has}
-use Rattle.l2_node.specs.Writing.{new_block}
 use Rattle.l2_types.specs.declared.side.Side.{Side}
 use Rattle.l2_types.specs.declared.side.Side.TheVariants.{Nb, Ue}
 use Rattle.law_bearer.specs.AnyBearer.Calls.{Call as BearerCall, Calls as BearerCalls, after_all, run_bearer}
 use Rattle.law_bearer.specs.AnyBearer.Calls.{after as bearer_after}
-use Rattle.law_deliver.specs.AmChannel.Lives.{AirStep, InLife, Moves, AreLiving, lives, lives_on, end_at, calls_at}
+use Rattle.law_deliver.specs.AmChannel.Lives.{InLife, end_at, calls_at}
 use Rattle.law_deliver.specs.AmChannel.Lives.{brought, calls_by}
 use Rattle.law_deliver.specs.AmChannel.Arrival.{built_in}
 use Rattle.law_deliver.specs.AmFlow.Air.{Block, Station, Air, Act, Calls, Comes, Goes, Step, AtNb, AtUe, Passes}
@@ -35,67 +31,34 @@ use Rattle.law_deliver.specs.AmFlow.Channels.{GoesOnInLife}
 use Rattle.law_deliver.specs.AmFlow.Ups.{calls_over}
 use Rattle.law_deliver.proofs.AmChannel.Ends.{step_end}
 use Rattle.law_deliver.proofs.AmFlow.Ups.{over_tells}
-use Rattle.law_deliver.proofs.AmFlow.Carrying.{front, rest}
-use Rattle.law_node.specs.Calls.{Call, Turn, Visits, Receive, IsGiven as IsGivenCall, run_end}
+use Rattle.law_node.specs.Calls.{Call, Turn, Visits, Receive, IsGiven as IsGivenCall}
 use Rattle.law_node.specs.Holding.{flow}
 use Rattle.law_node.specs.Names.{mode}
-use Rattle.law_node.specs.Telling.{told_of}
 use Rattle.pdcp_pdu.specs.declared.pdu.PdcpKind.{PdcpKind}
 use Rattle.pdu_show.specs.declared.kinds.Layout.{Layout}
-use Rattle.pdu_show.specs.declared.kinds.Layout.TheVariants as layouts
-use Rattle.promises.specs.Names.{Mode, Acknowledged, SentPdu, sent_pdus}
-use Rattle.promises.specs.Pdus.{carried}
-use Rattle.promises.specs.RightForm.{is_built}
-use Rattle.promises.specs.SentNumbers.{AreNumbers}
-use Rattle.journal_account.specs.Acked.{ignored_in}
+use Rattle.promises.specs.Names.{Acknowledged, SentPdu, sent_pdus}
 use Rattle.journal_account.specs.FlowEvents.{FlowEvent}
-use Rattle.journal_lives.specs.LifeEvents.{running}
 use Rattle.journal_form.specs.Tests.{carries}
-use Rattle.journal_form.specs.Checking.{Building, builds, ends}
-use Rattle.journal_form.proofs.NewBlocks.{carries_is}
-use Rattle.journal_form.proofs.Units.{told_to, all_told, complete, sound, was_right}
+use Rattle.journal_form.specs.Checking.{Building}
+use Rattle.journal_form.proofs.Units.{told_to}
 use Rattle.journal_flows.specs.FlowsTold.{Histories, histories}
-use Rattle.journal_flows.specs.Gathering.{Journal, Sending, sending_of, sent_last, behind_record}
-use Rattle.journal_status.specs.RightStatus.{ignored_told}
+use Rattle.journal_flows.specs.Gathering.{Journal, Sending, behind_record}
 use Rattle.law_run.specs.TwoEnds.ChannelLog.{on_channel, parted, HasRoom}
-use Rattle.law_run.specs.TwoEnds.Logs.{LogEntry, Tells, Hears, Flight, process_of, flight_behind, logged, logged_at}
-use Rattle.law_run.specs.TwoEnds.Logs.{all_tell, log_in, log_by, log_at, log_of, log_over, log_come}
-use Rattle.law_run.specs.TwoEnds.Logs.{Builds as EndBuilds}
-use Rattle.law_run.specs.TwoEnds.SenderLog.{BearerEntry, bearer_logs}
-use Rattle.law_run.specs.TwoEnds.Staying.{AreInLife}
+use Rattle.law_run.specs.TwoEnds.Logs.{log_in, log_by, log_at, log_over}
+use Rattle.law_run.specs.TwoEnds.SenderLog.{bearer_logs}
 use Rattle.law_run.proofs.ChannelLogs.{sides_log_their_calls}
 use Rattle.law_run.proofs.Modes.{keeps_mode}
-use Rattle.law_run.proofs.TwoEnds.Going.{flight_in, flight_more, logged_more}
-use Rattle.law_sound.specs.BesideLaws.{ReadRecord, behind_all, IsGatheredBeside, IsGatheredBehind, IsSentLast, IsNamed}
-use Rattle.law_sound.specs.BesideLaws.{tells_flow, LeavesFlows, station_of, at_side, bearer_at, RecordsOfAct, AreRecordsOf, octets_of}
-use Rattle.law_sound.specs.BesideSteps.{AreOfStep, OfAct, OfComing, OfBuilding, OfTti}
+use Rattle.law_sound.specs.BesideLaws.{ReadRecord, behind_all}
+use Rattle.law_sound.specs.BesideLaws.{tells_flow, LeavesFlows, station_of, at_side, bearer_at}
 use Rattle.law_sound.specs.CarriedLaws.{parcels_on, parcels_of}
 use Rattle.law_sound.specs.HeldLaws.{AreHeldAs, held_parcels}
-use Rattle.law_sound.specs.IgnoredLaws.{told_ignored}
-use Rattle.law_sound.specs.LoadLaws.{name_of}
 use Rattle.law_sound.specs.LivedFails.{HasComeNew, HaveComeNew}
-use Rattle.law_sound.specs.LivedHistories.{AreLived, Moment, GoOver, behind_down, behind_up, coming_in, logged_in}
-use Rattle.law_sound.specs.LivedHistories.{LiveOn}
-use Rattle.law_sound.specs.LoggedRecords.{records_of, IsOwn, IsTold}
-use Rattle.law_sound.specs.NamedLogs.{named_over}
-use Rattle.law_sound.specs.StepReading.{read_as, HasCountOn, ignored_so_far, IsTrueOf, AreTrueAt, TellTruly, AreTruly, IsRead}
-use Rattle.law_sound.specs.StepReading.{AreFormed, AreReadTo, IsFlightOf, StepsAreRead}
-use Rattle.law_sound.proofs.BesideSteps.{steps_are_gathered, behind_last}
-use Rattle.law_sound.proofs.LivedFails.{AreThere, lived_there, step_of, stands_new}
-use Rattle.law_sound.proofs.LivedHistories.{none_at, lives_go_on_beside}
-use Rattle.law_sound.proofs.LogEntries.{logs_split, first_entry, entry_is}
-use Rattle.law_sound.proofs.LoggedRecords.{own_records_tell}
-use Rattle.law_sound.proofs.MovingFails.{lives_come_new}
-use Rattle.law_sound.proofs.NamedLogs.{records_name, events_name, ends_send_as_they_build, steps_leave_none_named}
-use Rattle.law_sound.proofs.NamedNumbers.{calls_are_numbered, other_records_write_none}
-use Rattle.law_sound.proofs.NamedSteps.{telling_sends_none}
-use Rattle.law_sound.proofs.OtherRecords.{other_records_leave}
-use Rattle.law_sound.proofs.StepNames.{processes_known, told_more, with_sent, sent_of, names_told, silent_all}
-use Rattle.law_sound.proofs.StepRecords.{records_read, plain_logs, building_log, logs_are, plain_records}
-use Rattle.law_sound.proofs.StepRecords.{coming_records, building_records, all_told_by, are_records}
-use Rattle.law_sound.proofs.StepStatuses.{ignored_next, ignored_both, record_quiet, records_counted, IsPlain, own_plain, plain_truly, then_truly}
-use Rattle.law_sound.proofs.StepStatuses.{same_truly, plain_same}
-use Rattle.law_sound.proofs.StepTrueStatuses.{held_true, nb_writes_truly, ue_writes_truly, up_stays, down_stays}
+use Rattle.law_sound.specs.LivedHistories.{AreLived, Moment, behind_down, behind_up, coming_in, logged_in}
+use Rattle.law_sound.specs.LoggedRecords.{records_of, IsOwn}
+use Rattle.law_sound.proofs.LivedFails.{AreThere, step_of, stands_new}
+use Rattle.law_sound.proofs.LivedHistories.{none_at}
+use Rattle.law_sound.proofs.StepNames.{with_sent, sent_of}
+use Rattle.law_sound.proofs.StepRecords.{logs_are}
 
 -- ---- records one behind the other
 
@@ -140,7 +103,6 @@ module _ (l : ℕ) (side : Side) (b : State) where
       by None = refl
       by (Some block) =
           one_call s.end (Receive block.octets) new there is tt (record { adds_none = refl; moves_none = refl }) tt
-
   act_logs o s (Goes k) done new there is = refl
 
 pub step_logs : (l : ℕ) (side : Side) (b : State) (a : Air) (s : Step) → IsGiven l a s → HaveComeNew l a → AreThere l a
@@ -237,7 +199,8 @@ pub going_comes : (side : Side) (k : ℕ) (pdus : Carried) → coming_in (other 
 going_comes Nb k pdus = refl
 going_comes Ue k pdus = refl
 
-pub none_comes : (l : ℕ) (side : Side) (k : ℕ) (a : Air) (c : Carried) (down up : List FlowEvent) → AreLived l a c down up
+pub none_comes : (l : ℕ) (side : Side) (k : ℕ) (a : Air) (c : Carried) (down up : List FlowEvent)
+    → AreLived l a c down up
     → slice_get (station_of (other side) a).blocks k ≡ None → coming_in (other side) (at_side side (Comes k)) c ≡ []
 none_comes l Nb k a c down up h at =
     ap (λ (o : Option _). unwrap_or o []) (none_at l (sent_by Ue) _ _ a.ue.blocks c.ue k h.air.by_ue at)

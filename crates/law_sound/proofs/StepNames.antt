@@ -1,32 +1,26 @@
 -- Behind records a gatherer knows the process of the block that each side sent last as their log does; and what a side
 -- tells names the PDUs of its `send` events for its next new block, as the form of blocks is checked.
-use Rattle.std.proofs.Common.{◌≡◌, Bool, true, false, ◌&&◌, if◌then◌else◌, ℕ, Option, List, [], ◌∷◌, ◌++◌, map, refl}
-use Rattle.std.proofs.Common.{append-nil, append_assoc, ap, sym, subst, ◌∙◌}
-use Rattle.std.proofs.lemmas.List.{map-append}
+use Rattle.std.proofs.Common.{◌≡◌, Bool, true, false, if◌then◌else◌, Option, List, [], ◌∷◌, ◌++◌, refl}
+use Rattle.std.proofs.Common.{append-nil, append_assoc, ap, sym, ◌∙◌}
 use Rattle.air_record.specs.declared.record.Record.{Record}
 use Rattle.air_record.specs.declared.record.Record.TheVariants as records
 use Rattle.bearer_types.specs.declared.event.Event.{Event}
 use Rattle.bearer_types.specs.declared.event.Event.TheVariants as events
-use Rattle.bearer_types.specs.Sides.{is_same, is_same_way, sender_of, sent_by, other}
-use Rattle.l2_types.specs.declared.event.How.{How}
+use Rattle.bearer_types.specs.Sides.{is_same}
 use Rattle.l2_types.specs.declared.side.Side.{Side}
 use Rattle.l2_types.specs.declared.side.Side.TheVariants.{Nb, Ue}
-use Rattle.mac_pdu.specs.declared.item.Direction.TheVariants as directions
 use Rattle.pdu_show.specs.declared.kinds.Layout.{Layout}
 use Rattle.promises.specs.Events.{is_of_loop}
 use Rattle.promises.specs.Names.{SentPdu, sent_pdus}
-use Rattle.promises.specs.Records.{is_got}
-use Rattle.journal_flows.specs.declared.sending.Named.{Named}
 use Rattle.journal_flows.specs.FlowsTold.{Histories, histories}
-use Rattle.journal_flows.specs.Gathering.{Journal, sending_of, behind_event, behind_landing, behind_record}
-use Rattle.journal_form.specs.Checking.{Building, sends, builds}
+use Rattle.journal_flows.specs.Gathering.{Journal, sending_of, behind_record}
+use Rattle.journal_form.specs.Checking.{Building, sends}
 use Rattle.journal_form.proofs.Units.{told_to, all_told}
-use Rattle.law_run.specs.TwoEnds.Logs.{LogEntry, Tells, Builds, Hears, Flight, process_of, flight_behind, logged_at}
+use Rattle.law_run.specs.TwoEnds.Logs.{Tells, Flight, process_of, flight_behind, logged_at}
 use Rattle.law_run.specs.TwoEnds.Logs.{logged, all_tell, process_last}
 use Rattle.law_run.proofs.EmptyLists.{parts_empty}
 use Rattle.law_run.proofs.TwoEnds.Going.{flight_in}
 use Rattle.law_sound.specs.BesideLaws.{ReadRecord, behind_all}
-use Rattle.law_sound.specs.LoadLaws.{name_of}
 use Rattle.law_sound.specs.LoggedRecords.{records_of}
 use Rattle.law_sound.proofs.LogEntries.{first_entry, entry_is}
 use Rattle.law_sound.proofs.SentProcesses.{record_process}

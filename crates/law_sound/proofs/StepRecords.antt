@@ -1,6 +1,6 @@
 -- Records that log what a side tells in a step of a life are those of its bearer.
 use Rattle.std.proofs.Common.{◌≡◌, ℕ, ◌%◌, ◌&&◌, Bool, true, false, if◌then◌else◌, List, [], ◌∷◌, ◌++◌, map}
-use Rattle.std.proofs.Common.{Option, Some, None, slice_get, slice_index_or, append-nil, refl, ap, sym, subst, ◌∙◌}
+use Rattle.std.proofs.Common.{Option, Some, None, slice_index_or, append-nil, refl, ap, sym, subst, ◌∙◌}
 use Rattle.std.specs.List.{AllByRecursion, filter}
 use Rattle.air_record.specs.declared.record.Record.{Record}
 use Rattle.air_record.specs.declared.record.Record.TheVariants as records
@@ -20,7 +20,6 @@ use Rattle.l2_types.specs.declared.event.Clock.TheVariants.{Poll}
 use Rattle.l2_types.specs.declared.side.Side.{Side}
 use Rattle.l2_types.specs.declared.side.Side.TheVariants.{Nb, Ue}
 use Rattle.law_bearer.specs.AnyBearer.Calls.{Call as BearerCall}
-use Rattle.law_deliver.specs.AmChannel.Arrival.{built_in}
 use Rattle.law_deliver.specs.AmFlow.Air.{Block, Station, Calls, built_at, IsCalling}
 use Rattle.law_deliver.specs.AmFlow.Carrying.{Builds}
 use Rattle.law_deliver.specs.AmFlow.Channels.{calls_of, GoesOnInLife}
@@ -33,14 +32,14 @@ use Rattle.pdu_show.specs.declared.kinds.Layout.{Layout}
 use Rattle.pdu_show.specs.declared.kinds.Layout.TheVariants as layouts
 use Rattle.promises.specs.Events.{is_on}
 use Rattle.promises.specs.Pdus.{carried}
-use Rattle.law_run.specs.TwoEnds.ChannelLog.{on_channel, on_channel_at, parted, told_in, come_in, written_in, coming}
+use Rattle.law_run.specs.TwoEnds.ChannelLog.{on_channel, parted, told_in, come_in, written_in, coming}
 use Rattle.law_run.specs.TwoEnds.ChannelLog.{HasRoom}
 use Rattle.law_run.specs.TwoEnds.Logs.{LogEntry, Flight, logged, all_tell, log_in, Hears}
 use Rattle.law_run.specs.TwoEnds.Logs.{Builds as EndBuilds}
-use Rattle.law_run.specs.TwoEnds.SenderLog.{BearerEntry, Tells, Writes, Comes, telling, writing, bearer_logs}
+use Rattle.law_run.specs.TwoEnds.SenderLog.{BearerEntry, Tells, telling, writing, bearer_logs}
 use Rattle.law_run.proofs.ChannelLogs.{ends_log_on_channels}
 use Rattle.law_run.proofs.KeptByCalls.{said_writing}
-use Rattle.law_sound.specs.BesideLaws.{ReadRecord, LeavesFlows, tells, tells_flow, MayTakeAs, IsToldAt, AreRecordsOf}
+use Rattle.law_sound.specs.BesideLaws.{ReadRecord, tells, MayTakeAs, IsToldAt, AreRecordsOf}
 use Rattle.law_sound.specs.LivedFails.{HasComeNew}
 use Rattle.law_sound.specs.LoggedRecords.{records_of, IsOfSide, IsTold, IsOwn}
 use Rattle.law_sound.specs.StepReading.{read_as, HasCountOn}

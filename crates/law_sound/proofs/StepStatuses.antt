@@ -1,7 +1,7 @@
 -- Only a block that is got changes how many STATUS are ignored, and what a log tells of them is what its records tell;
 -- so along records that tell of a step not more are told of than were ignored.
-use Rattle.std.proofs.Common.{◌≡◌, ◌≤◌, ℕ, zero, suc, ◌+◌, ◌==◌, ◌&&◌, Bool, true, false, if◌then◌else◌, List, []}
-use Rattle.std.proofs.Common.{◌∷◌, ◌++◌, Option, Some, None, length, append-nil, refl, ap, sym, subst, ◌∙◌, arith}
+use Rattle.std.proofs.Common.{◌≡◌, ◌≤◌, ℕ, ◌+◌, ◌==◌, ◌&&◌, Bool, true, false, if◌then◌else◌, List, []}
+use Rattle.std.proofs.Common.{◌∷◌, ◌++◌, Option, Some, None, length, append-nil, refl, ap, ◌∙◌, arith}
 use Rattle.std.specs.Prelude.{slice_index_or}
 use Rattle.std.specs.List.{AllByRecursion, filter}
 use Rattle.air_record.specs.declared.record.Record.{Record}
@@ -31,10 +31,10 @@ use Rattle.journal_flows.specs.declared.parcels.Parcel.{Parcel}
 use Rattle.journal_flows.specs.declared.parcels.Parcel.TheVariants.{Octets, Pieces, Report}
 use Rattle.journal_flows.specs.declared.sending.Named.{Named}
 use Rattle.journal_flows.specs.FlowsTold.{Histories, histories, is_at, with_told}
-use Rattle.journal_flows.specs.Gathering.{Journal, Loaded, all_told, told_by, taken_as, report_as, reorder_as, parcel_of}
+use Rattle.journal_flows.specs.Gathering.{Journal, Loaded, all_told, told_by, taken_as, report_as, reorder_as}
+use Rattle.journal_flows.specs.Gathering.{parcel_of}
 use Rattle.journal_flows.specs.Gathering.{loads_parcel, loads, behind_landing, behind_record}
 use Rattle.journal_flows.specs.NumberedPdus.{AnyEvent, Acked, Unacked, Told, written_as}
-use Rattle.journal_flows.specs.Possible.{is_possible}
 use Rattle.journal_status.specs.RightStatus.{tells_ignored, ignored_told}
 use Rattle.law_run.specs.TwoEnds.ChannelLog.{on_channel, on_channel_at, coming}
 use Rattle.law_run.specs.TwoEnds.Logs.{LogEntry, Tells as EndTells, Hears, Flight, process_of, flight_behind}
@@ -43,7 +43,7 @@ use Rattle.law_run.specs.TwoEnds.SenderLog.{BearerEntry, Tells, writing}
 use Rattle.law_sound.specs.BesideLaws.{ReadRecord, behind_all}
 use Rattle.law_sound.specs.IgnoredLaws.{ignored_at, told_ignored}
 use Rattle.law_sound.specs.LoggedRecords.{records_of, IsOwn}
-use Rattle.law_sound.specs.StepReading.{ignored_so_far, AreTrueAt, TellTruly, AreTruly}
+use Rattle.law_sound.specs.StepReading.{ignored_so_far, AreTrueAt, TellTruly}
 use Rattle.law_sound.proofs.IgnoredLogs.{told_both, writing_none}
 use Rattle.law_sound.proofs.OtherRecords.{flows_behind}
 
@@ -252,7 +252,8 @@ module _ (side : Side) (l : ℕ) where
   record_counted : (sent : Flight) (one : Record)
       → told_ignored (on_channel l side (logged_at sent one)) ≡ ignored_told side l (one ∷ [])
   record_counted sent (records.Of own (events.Drop lcid losts.Ignored)) =
-      ap (λ (b : Bool). told_ignored ((if b && (lcid == l) then Tells (events.Drop lcid losts.Ignored) ∷ [] else []) ++ []))
+      ap (λ (b : Bool). told_ignored
+      ((if b && (lcid == l) then Tells (events.Drop lcid losts.Ignored) ∷ [] else []) ++ []))
       (same_both own side)
       ∙ one_if (is_same side own && (lcid == l)) (records.Of own (events.Drop lcid losts.Ignored)) lcid
   record_counted sent (records.Of own e) = event_counted own e (is_of_loop e) refl
@@ -332,8 +333,7 @@ module _ (kinds : List (Option Layout)) (l : ℕ) where
       → TellTruly kinds l said j xs
   plain_truly [] said j plain few = tt
   plain_truly (x ∷ xs) said j plain few =
-      let i = behind_record histories kinds x.more x.one j in
-      (
+      let i = behind_record histories kinds x.more x.one j in (
         plain_true x.one i plain.0,
         λ side q.
             let same = record_quiet kinds x.more x.one side l j (plain_ungot x.one plain.0) in

@@ -1,6 +1,6 @@
 -- The STATUS PDUs that a process holds of a new block are true of the flow that its side hears.
-use Rattle.std.proofs.Common.{◌≡◌, ℕ, ◌%◌, ◌==◌, Bool, true, false, if◌then◌else◌, List, [], ◌∷◌, ◌++◌, map}
-use Rattle.std.proofs.Common.{Option, Some, None, Result, Ok, Err, append-nil, refl, ap, sym, subst, ◌∙◌}
+use Rattle.std.proofs.Common.{◌≡◌, ℕ, ◌==◌, Bool, true, false, if◌then◌else◌, List, [], ◌∷◌, ◌++◌, map}
+use Rattle.std.proofs.Common.{Result, Ok, Err, append-nil, refl, ap, sym, subst, ◌∙◌}
 use Rattle.std.specs.Prelude.{option_to_list}
 use Rattle.std.specs.List.{AllByRecursion}
 use Rattle.std.proofs.lemmas.Bool.{eq-eqb}
@@ -27,7 +27,7 @@ use Rattle.journal_flows.specs.NumberedPdus.{front_in}
 use Rattle.law_account.specs.LateStatus.{entries_of}
 use Rattle.law_bearer.specs.AnyBearer.Calls.{Call as BearerCall}
 use Rattle.law_deliver.specs.AmChannel.Arrival.{built_in}
-use Rattle.law_deliver.specs.AmFlow.Air.{Block, Air, Act, Calls, AtNb, AtUe, built_at, IsDone}
+use Rattle.law_deliver.specs.AmFlow.Air.{Block, Air, Act, AtNb, AtUe, built_at, IsDone}
 use Rattle.law_deliver.specs.AmFlow.Carrying.{CarriedPdu, Numbered, Reported, pdu_octets, Carried, Builds, written_on}
 use Rattle.law_deliver.specs.AmFlow.Channels.{calls_of}
 use Rattle.law_deliver.specs.AmFlow.Reordering.{Reordering, reordering_in}
@@ -36,14 +36,13 @@ use Rattle.law_deliver.proofs.AmFlow.Carrying.{front, rest}
 use Rattle.law_deliver.proofs.AmFlow.NoPdus.{turns_tell_none}
 use Rattle.law_node.specs.Calls.{Turn, Visits}
 use Rattle.law_run.specs.TwoEnds.ChannelLog.{told_in}
-use Rattle.law_run.specs.TwoEnds.SenderLog.{BearerEntry, bearer_logs}
+use Rattle.law_run.specs.TwoEnds.SenderLog.{bearer_logs}
 use Rattle.law_run.proofs.ChannelLogs.{told_logs}
-use Rattle.law_sound.specs.BesideLaws.{octets_of}
 use Rattle.law_sound.specs.BlockStatuses.{AreReportsTrue, IsTrueAsGathered}
 use Rattle.law_sound.specs.CarriedLaws.{parcels_on, parcels_of}
 use Rattle.law_sound.specs.HearingLaws.{with_reordering}
-use Rattle.law_sound.specs.LivedHistories.{AreLived, WritesFrom, logged_in, behind_down, behind_up}
-use Rattle.law_sound.specs.NumberLaws.{data_parcel, AreGathered, IsGathered}
+use Rattle.law_sound.specs.LivedHistories.{AreLived, behind_down, behind_up}
+use Rattle.law_sound.specs.NumberLaws.{data_parcel, IsGathered}
 use Rattle.law_sound.specs.StepReading.{IsTrueOf}
 use Rattle.law_sound.proofs.BesideBuilding.{match_at, gathered_on, carried_first}
 use Rattle.law_sound.proofs.BlockStatuses.{reports_are_true}
@@ -57,17 +56,18 @@ module _ (l : ℕ) (es : List FlowEvent) where
 
   others_true : (ps : List Parcel) → AreTrue (parcels_on l ps) → AreTrue ps
   others_true [] h = tt
-  others_true (Octets lcid n start end ∷ ps) h =
-      (tt, others_true ps (rest (IsTrueOf l es) (if lcid == l then Octets lcid n start end ∷ [] else [])
-      (parcels_on l ps) h))
+  others_true (Octets lcid n start end ∷ ps) h = (
+    tt,
+    others_true ps (rest (IsTrueOf l es) (if lcid == l then Octets lcid n start end ∷ [] else [])
+        (parcels_on l ps) h),
+  )
   others_true (Pieces lcid n size pieces ∷ ps) h = (tt, others_true ps h)
-  others_true (Report lcid ack entries ∷ ps) h =
-      (
-        here (lcid == l) refl
-            (front (IsTrueOf l es) (if lcid == l then Report lcid ack entries ∷ [] else []) (parcels_on l ps) h),
-        others_true ps (rest (IsTrueOf l es) (if lcid == l then Report lcid ack entries ∷ [] else [])
-            (parcels_on l ps) h),
-      )
+  others_true (Report lcid ack entries ∷ ps) h = (
+    here (lcid == l) refl
+        (front (IsTrueOf l es) (if lcid == l then Report lcid ack entries ∷ [] else []) (parcels_on l ps) h),
+    others_true ps (rest (IsTrueOf l es) (if lcid == l then Report lcid ack entries ∷ [] else [])
+        (parcels_on l ps) h),
+  )
     where
       here : (b : Bool) → (lcid == l) ≡ b → AreTrue (if b then Report lcid ack entries ∷ [] else [])
           → lcid ≡ l → IsTrueStatus es ack entries

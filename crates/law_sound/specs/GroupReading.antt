@@ -1,7 +1,7 @@
 -- The groups of a script's journal, on a channel with an acknowledged bearer: what is gathered of
 -- each is what its records tell beside both ends (docs/formats/JOURNAL.md; TS 36.322 5.2.1, 5.2.3,
 -- 5.4).
-use Rattle.std.specs.Prelude.{◌≡◌, ℕ, false, List, [], ◌∷◌, Some}
+use Rattle.std.specs.Prelude.{◌≡◌, ℕ, false, List, ◌∷◌, Some}
 use Rattle.air_text.specs.Groups.{Group}
 use Rattle.bearer_types.specs.declared.config.BearerConfig.{BearerConfig}
 use Rattle.promises.specs.Blocks.{kinds}

@@ -1,4 +1,5 @@
--- How the run of a script tells of its flows, and so what it hands up of acknowledged data, and what
+-- How the run of a script tells of its flows, and so what it hands up of acknowledged data, and
+-- what
 -- its STATUS PDUs say: of each journal as it is promised of every script.
 use Rattle.std.specs.Prelude.{◌≡◌, ℕ, Bool, false, List}
 use Rattle.air_run.specs.Journal.{RunPlayed}

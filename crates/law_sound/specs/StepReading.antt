@@ -2,7 +2,7 @@
 -- to the moment behind them; the STATUS PDUs in new blocks are true of the flows that they speak
 -- of, and just those that are ignored as they come are told of (docs/formats/JOURNAL.md; TS 36.321
 -- 5.3.2, 5.4.2, TS 36.322 5.2.1, 5.2.3).
-use Rattle.std.specs.Prelude.{◌≡◌, ℕ, ◌+◌, ◌≤◌, Bool, true, false, List, [], ◌∷◌, ◌++◌, map, Option}
+use Rattle.std.specs.Prelude.{◌≡◌, ℕ, ◌+◌, ◌≤◌, Bool, true, List, [], ◌∷◌, ◌++◌, map, Option}
 use Rattle.std.specs.Prelude.{Some, slice_index_or, None}
 use Rattle.std.specs.List.{AllByRecursion, filter}
 use Rattle.air_record.specs.declared.record.Record.{Record}
