@@ -47,6 +47,9 @@ left_then : (l : ℕ) (i j k : Journal Histories) → IsLeft l i j → IsLeft l 
 left_then l i j k p q =
     record { flow = λ side. p.flow side ∙ q.flow side; nb = p.nb ∙ q.nb; ue = p.ue ∙ q.ue }
 
+pub turned_left : (l : ℕ) (i j : Journal Histories) → IsLeft l i j → IsLeft l j i
+turned_left l i j p = record { flow = λ side. sym (p.flow side); nb = sym p.nb; ue = sym p.ue }
+
 pub gone_left : (ks : List (Option Layout)) (l : ℕ) (reads : List ReadRecord) (j : Journal Histories)
     → AllByRecursion (λ (x : ReadRecord). IsGone x.one) reads → IsLeft l (behind_all ks reads j) j
 gone_left ks l [] j gone = record { flow = λ side. refl; nb = refl; ue = refl }

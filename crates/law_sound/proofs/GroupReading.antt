@@ -64,7 +64,7 @@ use Rattle.law_run.proofs.Standing.{lines_tell}
 use Rattle.law_run.proofs.TwoEnds.Coming.{same_on}
 use Rattle.law_run.proofs.TwoEnds.Advancing.{steps_stay, handovers_move}
 use Rattle.law_sound.specs.AlikeLaws.{AreAlikeJournals}
-use Rattle.law_sound.specs.BesideLaws.{ReadRecord, behind_all, BeginsNone}
+use Rattle.law_sound.specs.BesideLaws.{IsGatheredBeside, ReadRecord, behind_all, BeginsNone}
 use Rattle.law_sound.specs.GroupReading.{IsReadTruly, GroupsAreRead}
 use Rattle.law_sound.specs.LivedFails.{HaveComeNew}
 use Rattle.law_sound.specs.LivedHistories.{AreLived, Moment}
@@ -81,8 +81,15 @@ use Rattle.law_sound.proofs.StepReading.{steps_are_read}
 use Rattle.law_sound.proofs.StepReads.{both_truly, silent_read}
 use Rattle.law_sound.proofs.StepRecords.{records_read}
 use Rattle.law_sound.proofs.Still.{IsGone, AreGone, handover_gone}
+use Rattle.law_sound.proofs.GroupFails.{Stretches, steps_stretch, stretch_then, still_stretch, gone_fail_none}
+use Rattle.law_sound.proofs.GroupFails.{drained_fail_none, gathered_fails}
+use Rattle.law_sound.proofs.LivedLimits.{limits_stay, limits_begin}
+use Rattle.law_sound.specs.LivedLimits.{AreLimits}
+use Rattle.law_run.specs.TwoEnds.Going.{GoesByAir}
+use Rattle.promises.specs.Events.{fails_on}
+use Rattle.promises.specs.Records.{events_of}
 use Rattle.law_sound.proofs.GroupBearers.{known_at, counts_at, formed_at, begins_at, mode_at, of_kind, first_bearer}
-use Rattle.law_sound.proofs.GoneRecords.{gone_left, left_beside, gone_formed, gone_counts, gone_truly}
+use Rattle.law_sound.proofs.GoneRecords.{gone_left, turned_left, left_beside, gone_formed, gone_counts, gone_truly}
 
 -- ---- what is gathered alike
 
@@ -127,10 +134,20 @@ flight_of j = record { nb = j.nb.process; ue = j.ue.process; octets = [] }
 flies_so : (j : Journal Histories) → IsFlightOf j (flight_of j)
 flies_so j = record { nb_is = refl; ue_is = refl }
 
+read_same : (kind : PdcpKind) (l : ℕ) (a : Air) (m : Moment) (i j : Journal Histories) → i ≡ j → IsRead kind l a m i
+    → IsRead kind l a m j
+read_same kind l a m i j e r = record {
+  lived = r.lived;
+  new = r.new;
+  modes = r.modes;
+  gathered = subst (IsGatheredBeside l a m.pdus m.down m.up) e r.gathered;
+  named = λ side. ap (λ (k : Journal Histories). (sending_of side k).named) (sym e) ∙ r.named side;
+}
+
 -- ---- a line that is no handover, step by step
 
 module _ (l : ℕ) (kind : PdcpKind) (ks : List (Option Layout)) (first : Journal Histories)
-    (known : slice_index_or ks l None ≡ Some (layouts.Am kind)) where
+    (known : slice_index_or ks l None ≡ Some (layouts.Am kind)) (most : ℕ) (start : Moment) where
   -- behind some records of the line, before the others
   record Gathers (told others : List Record) (air : Air) : Type 0 where
     reads : List ReadRecord
@@ -138,6 +155,8 @@ module _ (l : ℕ) (kind : PdcpKind) (ks : List (Option Layout)) (first : Journa
     moment : Moment
     read : IsRead kind l air moment (behind_all ks reads first)
     statuses : AreTruly ks l first reads
+    stretches : Stretches most l told start moment
+    limits : AreLimits most read.lived.nb_bearer read.lived.ue_bearer
     formed : AreFormed ks others
 
   abbrev GathersAll : List Record → Air → Type 0
@@ -149,22 +168,27 @@ module _ (l : ℕ) (kind : PdcpKind) (ks : List (Option Layout)) (first : Journa
     on : IsOn k air
     gathers : GathersAll told air
 
-  gathers_more : (told more others : List Record) (air : Air) (steps : List AirStep) → AreLiving l air steps
-      → AreInLife steps → LogAlone more → log_of steps air ≡ logged no_flight more
+  gathers_more : (told more others : List Record) (submitted : _) (said : _) (set : _) (k : _) (air : Air)
+      (by : GoesByAir l more submitted said set k air) → AreInLife by.steps → LogAlone more
       → Gathers told (more ++ others) air → AllByRecursion (HasCountOn kind l) more
-      → Gathers (told ++ more) others (lives steps air)
-  gathers_more told more others air steps living life alone log g counts =
+      → Gathers (told ++ more) others (lives by.steps air)
+  gathers_more told more others submitted said set k air by life alone g counts =
       let j = behind_all ks g.reads first in
-      let x = steps_are_read ks kind l steps air g.moment (flight_of j) j more others known living life g.read
+      let x = steps_are_read ks kind l by.steps air g.moment (flight_of j) j more others known by.living life g.read
       (flies_so j)
-      (alone (flight_of j) ∙ sym log) counts g.formed in
+      (alone (flight_of j) ∙ sym by.logged_is) counts g.formed in
+      let now = read_same kind l (lives by.steps air) x.last _ _ (sym (all_then ks g.reads x.reads first)) x.read in
       record {
         reads = g.reads ++ x.reads;
         are = records_then g.reads x.reads
             ∙ (ap (λ (zs : List Record). zs ++ records_of x.reads) g.are ∙ ap (λ (zs : List Record). told ++ zs) x.are);
         moment = x.last;
-        read = subst (IsRead kind l (lives steps air) x.last) (sym (all_then ks g.reads x.reads first)) x.read;
+        read = now;
         statuses = both_truly ks kind l first g.reads x.reads g.statuses x.statuses;
+        stretches = stretch_then most l told more start g.moment x.last g.stretches
+            (steps_stretch most l more submitted said set k air g.moment x.last by g.read.new life g.read.lived x.over
+            g.limits);
+        limits = limits_stay most l by.steps air g.moment x.last g.read.new by.living g.read.lived now.lived g.limits;
         formed = x.formed;
       }
 
@@ -186,7 +210,7 @@ module _ (l : ℕ) (kind : PdcpKind) (ks : List (Option Layout)) (first : Journa
           gathers = λ others formed counts.
               let same = append_assoc told more others in
               let all = subst (AllByRecursion (HasCountOn kind l)) same counts in
-              gathers_more told more others h.air by.steps by.living (x.in_life own) x.goes.log_alone by.logged_is
+              gathers_more told more others _ _ _ _ h.air by (x.in_life own) x.goes.log_alone
               (h.gathers (more ++ others) (subst (AreFormed ks) same formed) all)
               (front (HasCountOn kind l) more others (rest (HasCountOn kind l) told (more ++ others) all));
         };
@@ -206,12 +230,12 @@ module _ (l : ℕ) (kind : PdcpKind) (ks : List (Option Layout)) (first : Journa
 abbrev gathered : MayTake → List Group → Journal Histories
 gathered may_take past = behind histories no_events may_take past
 
-abbrev Newest : MayTake → ℕ → List Group → Type 0
-Newest may_take l [] = Unit {0}
-Newest may_take l (g ∷ past) = IsReadTruly may_take l g past
+abbrev Newest : MayTake → BearerConfig → ℕ → List Group → Type 0
+Newest may_take c l [] = Unit {0}
+Newest may_take c l (g ∷ past) = IsReadTruly may_take c l g past
 
 record IsReadBehind (may_take : MayTake) (c : BearerConfig) (l : ℕ) (past : List Group) : Type 0 where
-  newest : Newest may_take l past
+  newest : Newest may_take c l past
   acked : IsAcknowledged c.kind
   low : l ≤ 10
   is : config_of l past ≡ Some c
@@ -221,6 +245,7 @@ record IsReadBehind (may_take : MayTake) (c : BearerConfig) (l : ℕ) (past : Li
   journal : Journal Histories
   alike : AreAlikeJournals (gathered may_take past) journal
   read : IsRead (of_kind c.kind c.pdcp_bits) l air moment journal
+  limits : AreLimits c.tx.max_retx read.lived.nb_bearer read.lived.ue_bearer
 
 no_records : (ks : List (Option Layout)) (l : ℕ) (j : Journal Histories) → AreTruly ks l j []
 no_records ks l j = record { each = tt; all = λ side. omega arith }
@@ -245,6 +270,22 @@ begins may_take past g c options right order acked =
     let j = behind_line histories (lines.Bearer c options) before in
     let sent = λ (side : Side). silent_sending may_take side past silent in
     let fits = has_place c.kind l x.config.lcid in
+    let outset_told : Moment = record { pdus = carries_none; down = []; up = [] } in
+    let read : IsRead (of_kind c.kind c.pdcp_bits) l (outset there.nb there.ue) outset_told j = record {
+      lived =
+          lives_begin_beside l there.nb there.ue (first_bearer c x.keys Nb) (first_bearer c x.keys Ue)
+          (begins_at Nb c x.keys there.nb acked (x.begun Nb)) (begins_at Ue c x.keys there.ue acked (x.begun Ue));
+      new = record {
+        nb = record { come = (x.begun Nb).come; new = (x.begun Nb).new };
+        ue = record { come = (x.begun Ue).come; new = (x.begun Ue).new };
+      };
+      modes = λ side. at_end side there (λ s e. mode (flow l e) ≡ Acknowledged (of_kind c.kind c.pdcp_bits))
+          (mode_at side c x.keys (end_of side there) acked (x.begun side));
+      gathered =
+          bearers_begin there.nb there.ue c options before (ap (λ (s : Sending). length s.held) (sent Nb))
+          (ap (λ (s : Sending). length s.held) (sent Ue));
+      named = λ side. ap (λ (s : Sending). s.named) (sending_line side (lines.Bearer c options) before ∙ sent side);
+    } in
     record {
       newest = record {
         first = j;
@@ -252,32 +293,23 @@ begins may_take past g c options right order acked =
         reads = [];
         are = sym none;
         statuses = no_records (kinds all) l j;
+        fails = gathered_fails c.tx.max_retx l g.events (outset there.nb there.ue) (outset there.nb there.ue) outset_told
+            outset_told j j read.gathered read.gathered
+            (still_stretch c.tx.max_retx l g.events (outset there.nb there.ue) outset_told read.lived
+            (λ side. ap (λ (zs : List Record). fails_on l (events_of side zs)) none));
       };
       acked = acked;
       low = omega (arith, fits);
       is = ap (λ (b : Bool). if b then Some c else config_of l past) (eq-eqb l l refl);
       air = outset there.nb there.ue;
-      moment = record { pdus = carries_none; down = []; up = [] };
+      moment = outset_told;
       on = x.early.rest;
       journal = j;
       alike = subst (λ (told : List Record). AreAlikeJournals
           (behind_records histories may_take past (kinds all) [] told j)
           j) (sym none) (same_alike j);
-      read = record {
-        lived =
-            lives_begin_beside l there.nb there.ue (first_bearer c x.keys Nb) (first_bearer c x.keys Ue)
-            (begins_at Nb c x.keys there.nb acked (x.begun Nb)) (begins_at Ue c x.keys there.ue acked (x.begun Ue));
-        new = record {
-          nb = record { come = (x.begun Nb).come; new = (x.begun Nb).new };
-          ue = record { come = (x.begun Ue).come; new = (x.begun Ue).new };
-        };
-        modes = λ side. at_end side there (λ s e. mode (flow l e) ≡ Acknowledged (of_kind c.kind c.pdcp_bits))
-            (mode_at side c x.keys (end_of side there) acked (x.begun side));
-        gathered =
-            bearers_begin there.nb there.ue c options before (ap (λ (s : Sending). length s.held) (sent Nb))
-            (ap (λ (s : Sending). length s.held) (sent Ue));
-        named = λ side. ap (λ (s : Sending). s.named) (sending_line side (lines.Bearer c options) before ∙ sent side);
-      };
+      read = read;
+      limits = limits_begin l c x.keys (outset there.nb there.ue) outset_told (x.begun Nb) (x.begun Ue) read.lived;
     }
 
 -- a line since that is no handover
@@ -301,7 +333,7 @@ stays may_take c l past g right order other own here h =
           (begins_none l g.line other) h.read.gathered;
       named = λ side. ap (λ (s : Sending). s.named) (sending_line side g.line h.journal) ∙ h.read.named side;
     } in
-    let live : Live l kind ks first known [] none_yet (λ bits from. []) false (link_behind past) = record {
+    let live : Live l kind ks first known c.tx.max_retx h.moment [] none_yet (λ bits from. []) false (link_behind past) = record {
       air = h.air;
       on = h.on;
       gathers = λ others formed counts.
@@ -311,13 +343,16 @@ stays may_take c l past g right order other own here h =
             moment = h.moment;
             read = begun;
             statuses = no_records ks l first;
+            stretches =
+                still_stretch c.tx.max_retx l [] h.air h.moment h.read.lived (λ side. refl);
+            limits = h.limits;
             formed = formed;
           };
     } in
     let m = link_line g.line (state_behind past) in
-    let x : PartLives l (Live l kind ks first known) (through l kind ks first known) [] none_yet (λ bits from. [])
+    let x : PartLives l (Live l kind ks first known c.tx.max_retx h.moment) (through l kind ks first known c.tx.max_retx h.moment) [] none_yet (λ bits from. [])
     (false || sets_timer l g.line) (entries_ended g.line) (part_of_line g.line) m =
-    line_stays l (Live l kind ks first known) (through l kind ks first known) [] none_yet (λ bits from. []) false g.line
+    line_stays l (Live l kind ks first known c.tx.max_retx h.moment) (through l kind ks first known c.tx.max_retx h.moment) [] none_yet (λ bits from. []) false g.line
     (state_behind past).rules.keys (link_behind past)
     (past_behind past order).nothing right.in_range other own here live
     in
@@ -327,11 +362,14 @@ stays may_take c l past g right order other own here h =
     let j = behind_all ks q.reads first in
     let z = (silent_read ks kind l x.lived.air q.moment (flight_of j) j x.rest q.read
     (drained_silent (flight_of j) x.rest x.rest_ends)).all in
+    let stretches = stretch_then c.tx.max_retx l x.more x.rest h.moment q.moment q.moment q.stretches
+    (still_stretch c.tx.max_retx l x.rest x.lived.air q.moment q.read.lived (drained_fail_none l x.rest x.rest_ends)) in
     let reads = q.reads ++ z.reads in
     let are : records_of reads ≡ g.events =
     records_then q.reads z.reads
     ∙ (ap (λ (zs : List Record). zs ++ records_of z.reads) q.are
     ∙ (ap (λ (zs : List Record). x.more ++ zs) z.are ∙ sym events_are)) in
+    let now = read_same kind l x.lived.air q.moment _ _ (sym (all_then ks q.reads z.reads first)) z.read in
     record {
       newest = record {
         first = first;
@@ -339,6 +377,9 @@ stays may_take c l past g right order other own here h =
         reads = reads;
         are = are;
         statuses = both_truly ks kind l first q.reads z.reads q.statuses z.statuses;
+        fails = gathered_fails c.tx.max_retx l g.events h.air x.lived.air h.moment q.moment first
+            (behind_all ks reads first) begun.gathered now.gathered
+            (subst (λ (zs : List Record). Stretches c.tx.max_retx l zs h.moment q.moment) (sym events_are) stretches);
       };
       acked = h.acked;
       low = h.low;
@@ -352,7 +393,9 @@ stays may_take c l past g right order other own here h =
           (sym (stays_there g.line here))
           (subst (λ (told : List Record). AreAlikeJournals (behind_records histories may_take past ks [] told before)
           (behind_all ks reads first)) are (reads_alike may_take past ks reads [] before first alike));
-      read = subst (IsRead kind l x.lived.air q.moment) (sym (all_then ks q.reads z.reads first)) z.read;
+      read = now;
+      limits = limits_stay c.tx.max_retx l [] x.lived.air q.moment q.moment q.read.new tt q.read.lived now.lived
+          q.limits;
     }
 
 -- ---- a handover
@@ -420,6 +463,10 @@ moves may_take c l past g user rrc integrity right order h =
         reads = told;
         are = records_read false g.events;
         statuses = gone_truly ks l g.events h.journal gone;
+        fails = gathered_fails c.tx.max_retx l g.events h.air h.air m m h.journal j h.read.gathered
+            (left_beside l h.air m h.journal j (turned_left l _ _ (gone_left ks l told h.journal
+            (reads_gone told (subst AreGone (sym (records_read false g.events)) gone)))) h.read.gathered)
+            (still_stretch c.tx.max_retx l g.events h.air m h.read.lived (gone_fail_none l g.events gone));
       };
       acked = h.acked;
       low = h.low;
@@ -439,6 +486,8 @@ moves may_take c l past g user rrc integrity right order h =
         gathered = left_beside l there y.last (behind_all ks y.reads ended) ended left y.read.gathered;
         named = λ side. none_ended side j;
       };
+      limits = limits_stay c.tx.max_retx l (Moves keys ∷ x.by.steps) h.air m y.last h.read.new (tt, x.by.living)
+          h.read.lived y.read.lived h.limits;
     }
 
 -- ---- behind all groups

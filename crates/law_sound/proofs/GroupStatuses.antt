@@ -287,13 +287,13 @@ module _ (may_take : MayTake) (now : Group) (past : List Group) (order : KeepsOr
   told_to told = behind_records histories may_take past ks [] told begun
 
   -- what is read stands beside it
-  read_beside : (l : ℕ) (x : IsReadTruly may_take l now past) (reads : List ReadRecord) (told : List Record)
+  read_beside : (c : BearerConfig) (l : ℕ) (x : IsReadTruly may_take c l now past) (reads : List ReadRecord) (told : List Record)
       → records_of reads ≡ told → AreAlikeJournals (told_to told) (behind_all ks reads x.first)
-  read_beside l x reads told e =
+  read_beside c l x reads told e =
       subst (λ (zs : List Record). AreAlikeJournals (told_to zs) (behind_all ks reads x.first)) e
       (reads_alike may_take past ks reads [] begun x.first x.alike)
 
-  record IsTruly (l : ℕ) (told : List Record) (one : Record) (x : IsReadTruly may_take l now past) : Type 0 where
+  record IsTruly (c : BearerConfig) (l : ℕ) (told : List Record) (one : Record) (x : IsReadTruly may_take c l now past) : Type 0 where
     before : List ReadRecord
     before_are : records_of before ≡ told
     read : ReadRecord
@@ -301,9 +301,9 @@ module _ (may_take : MayTake) (now : Group) (past : List Group) (order : KeepsOr
     truly : IsTrueThere ks l (λ side. ignored_so_far side l x.first) x.first before read
     alike : AreAlikeJournals (told_to (told ++ one ∷ [])) (behind_all ks (before ++ read ∷ []) x.first)
 
-  truly_at : (l : ℕ) (told : List Record) (one : Record) (others : List Record) → now.events ≡ told ++ one ∷ others
-      → (x : IsReadTruly may_take l now past) → IsTruly l told one x
-  truly_at l told one others e x =
+  truly_at : (c : BearerConfig) (l : ℕ) (told : List Record) (one : Record) (others : List Record) → now.events ≡ told ++ one ∷ others
+      → (x : IsReadTruly may_take c l now past) → IsTruly c l told one x
+  truly_at c l told one others e x =
       let s = split_reads told one others x.reads (x.are ∙ e) in
       let read : ReadRecord = record { more = s.more; one = one } in
       record {
@@ -313,7 +313,7 @@ module _ (may_take : MayTake) (now : Group) (past : List Group) (order : KeepsOr
         one_is = refl;
         truly = true_there ks l _ x.first s.before read s.behind
             (subst (TellTruly ks l (λ side. ignored_so_far side l x.first) x.first) s.are x.statuses.each);
-        alike = read_beside l x (s.before ++ read ∷ []) (told ++ one ∷ [])
+        alike = read_beside c l x (s.before ++ read ∷ []) (told ++ one ∷ [])
             (records_then s.before (read ∷ []) ∙ ap (λ (zs : List Record). zs ++ one ∷ []) s.before_are);
       }
 
@@ -352,7 +352,7 @@ module _ (may_take : MayTake) (now : Group) (past : List Group) (order : KeepsOr
       (λ l known.
       let c = acked_on (now ∷ past) l known in
       let x = groups_are_read may_take l now past c.config order own c.is c.acked in
-      let t = truly_at l told one others e x in
+      let t = truly_at c.config l told one others e x in
       let i = behind_all ks (t.before ++ t.read ∷ []) x.first in
       let there : AreTrueAt l i one = subst (AreTrueAt l i) t.one_is t.truly.reports in
       subst (λ (s : Sending). AllByRecursion (IsTrueOf l (running (j.flows.acked (other from) l))) (sent_last s))
@@ -373,7 +373,7 @@ module _ (may_take : MayTake) (now : Group) (past : List Group) (order : KeepsOr
   -- ---- those that are ignored
 
   module _ (side : Side) (l : ℕ) (c : BearerConfig) (is : bearer_on l (now ∷ past) ≡ Some c)
-      (acked : is_acked_kind c.kind ≡ true) (x : IsReadTruly may_take l now past) where
+      (acked : is_acked_kind c.kind ≡ true) (x : IsReadTruly may_take c l now past) where
     within_is : (told : List Record) (i : Journal Histories) → AreAlikeJournals (told_to told) i
         → ignored_within may_take (up_to told now) past side l ≡ ignored_so_far side l i
     within_is told i alike =
@@ -385,7 +385,7 @@ module _ (may_take : MayTake) (now : Group) (past : List Group) (order : KeepsOr
     ignored_truly : AreIgnoredTold may_take now past side l
     ignored_truly = record {
       behind_each = λ told one others e tells.
-          let t = truly_at l told one others e x in
+          let t = truly_at c l told one others e x in
           let first = within_is [] x.first x.alike in
           let there = within_is (told ++ one ∷ []) (behind_all ks (t.before ++ t.read ∷ []) x.first) t.alike in
           let few = t.truly.ignored side (ap (tells_ignored side l) t.one_is ∙ tells) in
@@ -395,7 +395,7 @@ module _ (may_take : MayTake) (now : Group) (past : List Group) (order : KeepsOr
           omega (arith, first, there, few, same, all, one');
       behind_all =
           let first = within_is [] x.first x.alike in
-          let there = within_is now.events (behind_all ks x.reads x.first) (read_beside l x x.reads now.events x.are) in
+          let there = within_is now.events (behind_all ks x.reads x.first) (read_beside c l x x.reads now.events x.are) in
           let all = x.statuses.all side in
           let same = ap (ignored_told side l) x.are in
           omega (arith, first, there, all, same);

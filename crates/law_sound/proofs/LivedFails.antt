@@ -39,7 +39,7 @@ use Rattle.law_run.specs.TwoEnds.ChannelLog.{told_in, parted}
 use Rattle.law_run.specs.TwoEnds.Staying.{AreInLife}
 use Rattle.law_run.specs.TwoEnds.SenderLog.{BearerEntry, Tells, telling, bearer_logs}
 use Rattle.law_sound.specs.FailLaws.{GoesOnTo}
-use Rattle.law_sound.specs.LivedFails.{HasComeNew, sns_in, LivesFailRightly, RecordsTellRightly}
+use Rattle.law_sound.specs.LivedFails.{HaveComeNew, HasComeNew, sns_in, LivesFailRightly, RecordsTellRightly}
 use Rattle.law_sound.specs.LivedHistories.{gone_on, logged_in, GoesOnBy, AreLived, Moment, GoOver}
 use Rattle.law_sound.specs.LogLaws.{with_log, fails_at, fails_in}
 use Rattle.law_sound.proofs.HearingFails.{heard_only, heard_fail_none}
@@ -141,16 +141,16 @@ sns_then l side x xs a =
     ∙ ap (λ (z : End). fails_on l (told_over cs e) ++ fails_on l (told_over ds z)) (sym (step_end side a x)))
 
 -- a stretch of a history, with the SNs that are told in it
-record Stretch (most : ℕ) (es now : List FlowEvent) (sns : List ℕ) : Type 0 where
-  history : IsHistory now
-  on : GoesOnTo es now
-  fails : AreFailsOf most es now sns
+pub record Stretch (most : ℕ) (es now : List FlowEvent) (sns : List ℕ) : Type 0 where
+  pub history : IsHistory now
+  pub on : GoesOnTo es now
+  pub fails : AreFailsOf most es now sns
 
-none_told : (most : ℕ) (es : List FlowEvent) → IsHistory es → Stretch most es es []
+pub none_told : (most : ℕ) (es : List FlowEvent) → IsHistory es → Stretch most es es []
 none_told most es h =
     record { history = h; on = ([], refl); fails = heard_fail_none most es es (heard_only [] [] es) h }
 
-both_told : (most : ℕ) (es mid now : List FlowEvent) (sns later : List ℕ) → Stretch most es mid sns
+pub both_told : (most : ℕ) (es mid now : List FlowEvent) (sns later : List ℕ) → Stretch most es mid sns
     → Stretch most mid now later → Stretch most es now (sns ++ later)
 both_told most es mid now sns later h k = record {
   history = k.history;
@@ -177,7 +177,7 @@ pub same_limit : (f : Flow) (x y : State) (m n : ℕ) → f ≡ Am x → f ≡ A
 same_limit f x y m n p q i j =
     sym i ∙ (ap (λ (b : State). b.tx.config.max_retx) (same_bearer f x y p q) ∙ j)
 
-other_limit : (m n : ℕ) (es now : List FlowEvent) (sns : List ℕ) → m ≡ n → Stretch m es now sns → Stretch n es now sns
+pub other_limit : (m n : ℕ) (es now : List FlowEvent) (sns : List ℕ) → m ≡ n → Stretch m es now sns → Stretch n es now sns
 other_limit m n es now sns q h = subst (λ (most : ℕ). Stretch most es now sns) q h
 
 -- a step of a life, and those behind it
@@ -199,9 +199,9 @@ step_told l side s xs a g h most pdus es last b is heard tx rx on rest =
 
 -- ---- in a life
 
-record AreStretches (l : ℕ) (nb ue : State) (xs : List AirStep) (a : Air) (m last : Moment) : Type 0 where
-  down : Stretch nb.tx_config.max_retx m.down last.down (sns_in l Nb xs a)
-  up : Stretch ue.tx_config.max_retx m.up last.up (sns_in l Ue xs a)
+pub record AreStretches (l : ℕ) (nb ue : State) (xs : List AirStep) (a : Air) (m last : Moment) : Type 0 where
+  pub down : Stretch nb.tx_config.max_retx m.down last.down (sns_in l Nb xs a)
+  pub up : Stretch ue.tx_config.max_retx m.up last.up (sns_in l Ue xs a)
 
 are_told : (l : ℕ) (xs : List AirStep) (a : Air) (m last : Moment) → Stands Nb l a.nb.end → Stands Ue l a.ue.end
     → AreLiving l a xs → AreInLife xs → (h : AreLived l a m.pdus m.down m.up) → GoOver l xs a m last
@@ -262,11 +262,17 @@ lived_there l a m h =
     (let p = both_match l h.nb h.ue h.nb_bearer h.ue_bearer h.steps h.nb_begins h.ue_begins h.given in
     record { nb = p.nb.matches.there; ue = p.ue.matches.there })
 
+pub lives_told : (l : ℕ) (xs : List AirStep) (a : Air) (m last : Moment) → HaveComeNew l a → AreLiving l a xs
+    → AreInLife xs → (h : AreLived l a m.pdus m.down m.up) → GoOver l xs a m last
+    → AreStretches l h.nb_bearer h.ue_bearer xs a m last
+lives_told l xs a m last new living life h over =
+    let there = lived_there l a m h in
+    are_told l xs a m last (stands_new Nb l a.nb.end new.nb there.nb)
+    (stands_new Ue l a.ue.end new.ue there.ue) living life h over
+
 pub lives_fail_rightly : LivesFailRightly
 lives_fail_rightly l xs a m last new living life h over =
-    let there = lived_there l a m h in
-    let are = are_told l xs a m last (stands_new Nb l a.nb.end new.nb there.nb)
-    (stands_new Ue l a.ue.end new.ue there.ue) living life h over in
+    let are = lives_told l xs a m last new living life h over in
     record { by_nb = are.down.fails; by_ue = are.up.fails }
 
 pub records_tell_rightly : RecordsTellRightly

@@ -16,7 +16,6 @@ pub mod IgnoredLaws
 pub mod LivedHistories
 pub mod LivedFails
 pub mod LivedLimits
-pub mod GroupFails
 pub mod NumberLaws
 pub mod CarriedLaws
 pub mod LoadLaws

@@ -17,7 +17,6 @@ ghost use Rattle.law_sound.specs.LivedHistories.{LivesGoOver, LivesWriteTruly};
 ghost use Rattle.law_sound.specs.LivedFails.{LivesComeNew, LivesFailRightly, MovesFailNone};
 ghost use Rattle.law_sound.specs.LivedFails.{RecordsTellRightly};
 ghost use Rattle.law_sound.specs.LivedLimits.{LimitsBegin, LimitsStay};
-ghost use Rattle.law_sound.specs.GroupFails.{GroupsFailRightly, HandoversFailRightly};
 ghost use Rattle.law_sound.specs.IgnoredLaws.{LogsTellIgnored, NoBlockIsIgnored};
 ghost use Rattle.law_sound.specs.GatherLaws.{EventsAreGathered, DataIsGathered};
 ghost use Rattle.law_sound.specs.GatherLaws.{TrueStatusIsGathered};
@@ -288,15 +287,6 @@ pub fn lives_fail_rightly()
     ensures records { RecordsTellRightly }
     ensures first { LimitsBegin }
     ensures limits { LimitsStay }
-{}
-
-/// So the `fail` records of a group are right on a channel with an acknowledged bearer, as their
-/// checker asks it, where its records tell of steps of one life, or of a handover and steps behind
-/// it, and the histories of both flows, behind its line and behind its records, are those that the
-/// journal tells.
-pub fn groups_fail_rightly()
-    ensures lives { GroupsFailRightly }
-    ensures handovers { HandoversFailRightly }
 {}
 
 /// So, behind the record of a new block, its process holds what it carries, on an acknowledged
