@@ -36,7 +36,7 @@ use Rattle.journal_flows.specs.Gathering.{Journal, Sending, MayTake, sending_of,
 use Rattle.journal_flows.specs.Gathering.{behind_end}
 use Rattle.journal_flows.specs.Gathering.{behind_record, behind_records, within}
 use Rattle.journal_flows.specs.Gathering as gathering
-use Rattle.law_deliver.specs.AmChannel.Lives.{AirStep, Moves, AreLiving, lives, lives_on, end_at}
+use Rattle.law_deliver.specs.AmChannel.Lives.{Moves, lives, lives_on, end_at}
 use Rattle.law_deliver.specs.AmFlow.Air.{Air, outset}
 use Rattle.law_deliver.specs.AmFlow.Carrying.{carries_none}
 use Rattle.law_deliver.proofs.AmFlow.Carrying.{front, rest}
@@ -50,7 +50,7 @@ use Rattle.law_run.specs.Order.{state_behind, IsRight, KeepsOrder}
 use Rattle.law_run.specs.TwoEnds.Coming.{none_yet}
 use Rattle.law_run.specs.TwoEnds.Going.{IsStepSince}
 use Rattle.law_run.specs.TwoEnds.Lived.{IsAcknowledged}
-use Rattle.law_run.specs.TwoEnds.Logs.{Flight, logged, no_flight, log_of, LogAlone}
+use Rattle.law_run.specs.TwoEnds.Logs.{Flight, logged, no_flight, LogAlone}
 use Rattle.law_run.specs.TwoEnds.On.{IsOn}
 use Rattle.law_run.specs.TwoEnds.Staying.{MovesOn, AreInLife, is_handover_step}
 use Rattle.law_run.proofs.BearerWalk.{adds_one, comes, behind_all as walk_all}
@@ -293,7 +293,8 @@ begins may_take past g c options right order acked =
         reads = [];
         are = sym none;
         statuses = no_records (kinds all) l j;
-        fails = gathered_fails c.tx.max_retx l g.events (outset there.nb there.ue) (outset there.nb there.ue) outset_told
+        fails = gathered_fails c.tx.max_retx l g.events (outset there.nb there.ue)
+            (outset there.nb there.ue) outset_told
             outset_told j j read.gathered read.gathered
             (still_stretch c.tx.max_retx l g.events (outset there.nb there.ue) outset_told read.lived
             (λ side. ap (λ (zs : List Record). fails_on l (events_of side zs)) none));
@@ -333,7 +334,8 @@ stays may_take c l past g right order other own here h =
           (begins_none l g.line other) h.read.gathered;
       named = λ side. ap (λ (s : Sending). s.named) (sending_line side g.line h.journal) ∙ h.read.named side;
     } in
-    let live : Live l kind ks first known c.tx.max_retx h.moment [] none_yet (λ bits from. []) false (link_behind past) = record {
+    let live : Live l kind ks first known c.tx.max_retx h.moment [] none_yet (λ bits from. []) false
+    (link_behind past) = record {
       air = h.air;
       on = h.on;
       gathers = λ others formed counts.
@@ -350,9 +352,11 @@ stays may_take c l past g right order other own here h =
           };
     } in
     let m = link_line g.line (state_behind past) in
-    let x : PartLives l (Live l kind ks first known c.tx.max_retx h.moment) (through l kind ks first known c.tx.max_retx h.moment) [] none_yet (λ bits from. [])
+    let x : PartLives l (Live l kind ks first known c.tx.max_retx h.moment)
+    (through l kind ks first known c.tx.max_retx h.moment) [] none_yet (λ bits from. [])
     (false || sets_timer l g.line) (entries_ended g.line) (part_of_line g.line) m =
-    line_stays l (Live l kind ks first known c.tx.max_retx h.moment) (through l kind ks first known c.tx.max_retx h.moment) [] none_yet (λ bits from. []) false g.line
+    line_stays l (Live l kind ks first known c.tx.max_retx h.moment)
+    (through l kind ks first known c.tx.max_retx h.moment) [] none_yet (λ bits from. []) false g.line
     (state_behind past).rules.keys (link_behind past)
     (past_behind past order).nothing right.in_range other own here live
     in

@@ -287,13 +287,15 @@ module _ (may_take : MayTake) (now : Group) (past : List Group) (order : KeepsOr
   told_to told = behind_records histories may_take past ks [] told begun
 
   -- what is read stands beside it
-  read_beside : (c : BearerConfig) (l : ℕ) (x : IsReadTruly may_take c l now past) (reads : List ReadRecord) (told : List Record)
+  read_beside : (c : BearerConfig) (l : ℕ) (x : IsReadTruly may_take c l now past) (reads : List ReadRecord)
+      (told : List Record)
       → records_of reads ≡ told → AreAlikeJournals (told_to told) (behind_all ks reads x.first)
   read_beside c l x reads told e =
       subst (λ (zs : List Record). AreAlikeJournals (told_to zs) (behind_all ks reads x.first)) e
       (reads_alike may_take past ks reads [] begun x.first x.alike)
 
-  record IsTruly (c : BearerConfig) (l : ℕ) (told : List Record) (one : Record) (x : IsReadTruly may_take c l now past) : Type 0 where
+  record IsTruly (c : BearerConfig) (l : ℕ) (told : List Record) (one : Record)
+      (x : IsReadTruly may_take c l now past) : Type 0 where
     before : List ReadRecord
     before_are : records_of before ≡ told
     read : ReadRecord
@@ -301,7 +303,8 @@ module _ (may_take : MayTake) (now : Group) (past : List Group) (order : KeepsOr
     truly : IsTrueThere ks l (λ side. ignored_so_far side l x.first) x.first before read
     alike : AreAlikeJournals (told_to (told ++ one ∷ [])) (behind_all ks (before ++ read ∷ []) x.first)
 
-  truly_at : (c : BearerConfig) (l : ℕ) (told : List Record) (one : Record) (others : List Record) → now.events ≡ told ++ one ∷ others
+  truly_at : (c : BearerConfig) (l : ℕ) (told : List Record) (one : Record) (others : List Record)
+      → now.events ≡ told ++ one ∷ others
       → (x : IsReadTruly may_take c l now past) → IsTruly c l told one x
   truly_at c l told one others e x =
       let s = split_reads told one others x.reads (x.are ∙ e) in
@@ -395,7 +398,8 @@ module _ (may_take : MayTake) (now : Group) (past : List Group) (order : KeepsOr
           omega (arith, first, there, few, same, all, one');
       behind_all =
           let first = within_is [] x.first x.alike in
-          let there = within_is now.events (behind_all ks x.reads x.first) (read_beside c l x x.reads now.events x.are) in
+          let there = within_is now.events (behind_all ks x.reads x.first)
+          (read_beside c l x x.reads now.events x.are) in
           let all = x.statuses.all side in
           let same = ap (ignored_told side l) x.are in
           omega (arith, first, there, all, same);

@@ -177,7 +177,8 @@ pub same_limit : (f : Flow) (x y : State) (m n : ℕ) → f ≡ Am x → f ≡ A
 same_limit f x y m n p q i j =
     sym i ∙ (ap (λ (b : State). b.tx.config.max_retx) (same_bearer f x y p q) ∙ j)
 
-pub other_limit : (m n : ℕ) (es now : List FlowEvent) (sns : List ℕ) → m ≡ n → Stretch m es now sns → Stretch n es now sns
+pub other_limit : (m n : ℕ) (es now : List FlowEvent) (sns : List ℕ) → m ≡ n → Stretch m es now sns
+    → Stretch n es now sns
 other_limit m n es now sns q h = subst (λ (most : ℕ). Stretch most es now sns) q h
 
 -- a step of a life, and those behind it
