@@ -76,7 +76,7 @@ acked_alike from own e f h k same a = record {
     by side lcid true = event_alike e f (h.acked side lcid) (k.acked side lcid) same (a.acked side lcid)
     by side lcid false = a.acked side lcid
 
-any_alike : (from : Side) (own : ℕ) (e : AnyEvent) (h k : Histories) → AreAlikeFlows h k
+pub any_alike : (from : Side) (own : ℕ) (e : AnyEvent) (h k : Histories) → AreAlikeFlows h k
     → AreAlikeFlows (with_any from own e h) (with_any from own e k)
 any_alike from own (Acked e) h k a = acked_alike from own e e h k refl a
 any_alike from own (Unacked e) h k a = record {
@@ -87,7 +87,7 @@ any_alike from own (Unacked e) h k a = record {
 
 -- ---- a PDU as it is named
 
-read_alike : (layout : Option Layout) (h k : Histories) (from : Side) (one : Named) (octets : List ℕ)
+pub read_alike : (layout : Option Layout) (h k : Histories) (from : Side) (one : Named) (octets : List ℕ)
     → AreAlikeFlows h k → parcel_in histories layout h from one octets ≡ parcel_in histories layout k from one octets
 read_alike (Some (layouts.Am kind)) h k from one octets a =
     ap (λ (next : ℕ). parcel_by next (front_in (running (h.acked (other from) one.lcid))) one.lcid one.how

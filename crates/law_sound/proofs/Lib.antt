@@ -91,3 +91,4 @@ pub mod GroupStatuses
 pub mod KnownBearers
 pub mod GroupBearers
 pub mod GoneRecords
+pub mod AgreeJournals

@@ -1,5 +1,4 @@
--- Records of a step take what is gathered to the moment behind it, and tell truly of STATUS PDUs; so do records that
--- log
+-- Records of a step take what is gathered to the moment behind it, and tell truly of STATUS PDUs; so do records that log
 -- nothing.
 use Rattle.std.proofs.Common.{◌≡◌, ℕ, ◌+◌, ◌%◌, Bool, true, false, List, [], ◌∷◌, ◌++◌}
 use Rattle.std.proofs.Common.{Option}

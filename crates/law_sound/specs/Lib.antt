@@ -32,3 +32,4 @@ pub mod NamedSteps
 pub mod StepReading
 pub mod GroupReading
 pub mod ElsewhereLaws
+pub mod AgreeLaws

@@ -49,6 +49,7 @@ ghost use Rattle.law_sound.specs.NamedLogs.{StepsLeaveNoneNamed};
 ghost use Rattle.law_sound.specs.NamedSteps.{OtherRecordsWriteNone, CallsAreNumbered};
 ghost use Rattle.law_sound.specs.NamedSteps.{NewBlocksHaveForm, BearersStayKnown};
 ghost use Rattle.law_sound.specs.NamedSteps.{NewBlocksAreToldOf};
+ghost use Rattle.law_sound.specs.AgreeLaws.{JournalsAgreeOnAChannel};
 
 /// Which COUNTs have come of acknowledged data is the same by the octets of its PDUs and by the
 /// history of its flow.
@@ -356,6 +357,12 @@ pub fn alike_journals()
 /// what is said of these expiries.
 pub fn status_needs_no_flags()
     ensures { StatusNeedsNoFlags }
+{}
+
+/// And what is gathered with two such answers agrees on a channel, where both answer alike there,
+/// behind each record, each line and the end of each group.
+pub fn journals_agree()
+    ensures { JournalsAgreeOnAChannel }
 {}
 
 /// In the journal of every script a side tells, of a channel without an acknowledged bearer, no
