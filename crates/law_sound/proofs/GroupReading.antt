@@ -364,7 +364,7 @@ stays may_take c l past g right order other own here h =
     let q = x.lived.gathers x.rest (subst (AreFormed ks) events_are (formed_at past g (right, order)))
     (subst (AllByRecursion (HasCountOn kind l)) events_are (counts_at past g l c (right, order) is' h.acked)) in
     let j = behind_all ks q.reads first in
-    let z = (silent_read ks kind l x.lived.air q.moment (flight_of j) j x.rest q.read
+    let z = (silent_read ks kind l x.lived.air x.lived.air q.moment (flight_of j) j x.rest q.read
     (drained_silent (flight_of j) x.rest x.rest_ends)).all in
     let stretches = stretch_then c.tx.max_retx l x.more x.rest h.moment q.moment q.moment q.stretches
     (still_stretch c.tx.max_retx l x.rest x.lived.air q.moment q.read.lived (drained_fail_none l x.rest x.rest_ends)) in

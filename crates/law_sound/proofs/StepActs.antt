@@ -57,7 +57,9 @@ use Rattle.law_sound.proofs.NamedSteps.{telling_sends_none}
 use Rattle.law_sound.proofs.StepLogs.{records_then, none_named, has_room, builds_none, flows_at, new_at}
 use Rattle.law_sound.proofs.StepLogs.{there_at, given_at, log_at_side, logged_at_side, kind_at, call_comes}
 use Rattle.law_sound.proofs.StepLogs.{block_carries, block_closes, next}
-use Rattle.law_sound.proofs.StepReads.{said_at, Counts, Reads, plain_all, there, step_read, block_true}
+use Rattle.law_sound.proofs.StepReads.{said_at, Counts, Reads, plain_all, own_answered, there, step_read, block_true}
+use Rattle.law_sound.specs.StepReading.{has_something, IsAnswered}
+use Rattle.law_bearer.proofs.AnyBearer.SenderCalls.{all_then as each_then}
 use Rattle.law_sound.proofs.StepNames.{told_more, with_sent, sent_of, names_told}
 use Rattle.law_sound.proofs.StepRecords.{records_read, plain_logs, building_log, plain_records}
 use Rattle.law_sound.proofs.StepRecords.{coming_records, building_records, all_told_by, are_records}
@@ -108,6 +110,12 @@ module _ (kinds : List (Option Layout)) (kind : PdcpKind) (l : ℕ)
         (subst (AllByRecursion (IsTold side))
         (sym (ap (logged sent) (records_read flag told) ∙ logs)) (all_told_by l side said))
 
+    own_answers : (told : List Record)
+        → AllByRecursion (λ (x : ReadRecord). IsOwn l side x.one) (read_as (has_more b.pdcp) told)
+        → AllByRecursion (IsAnswered l a) (read_as (has_more b.pdcp) told)
+    own_answers told own =
+        own_answered kinds kind l side a (has_more b.pdcp) told (ap has_something (sym is)) own
+
     plain_told : (told : List Record) (said : List Event) (flag : Bool) → logged sent told ≡ all_tell side said
         → AllByRecursion (λ (x : ReadRecord). IsPlain x.one) (read_as flag told)
     plain_told told said flag logs = plain_all kinds kind l side (read_as flag told) (own_told told said flag logs)
@@ -137,18 +145,19 @@ module _ (kinds : List (Option Layout)) (kind : PdcpKind) (l : ℕ)
         → RecordsOfAct kinds l side a x m.pdus m.down m.up r.lived (read_as (has_more b.pdcp) told) []
         → logged sent told ≡ log_by side (station_of (other side) a) s.end x → logged sent told ≡ all_tell side said
         → sent_pdus said ≡ []
-        → Reads kinds kind l j (happens a (at_side side x)) (next l a m (at_side side x) r.lived) told
+        → Reads a kinds kind l j (happens a (at_side side x)) (next l a m (at_side side x) r.lived) told
     act_read x told said done none quiet of logs tells none_sent' =
         let flag = has_more b.pdcp in
         let rs = read_as flag told in
         step_read kinds kind l a m sent j r (at_side side x) told rs (given_at l side a x done) (records_read flag told)
         (logs ∙ sym (log_at_side side a x)) (OfAct side x refl done none quiet of)
         (λ now count. plain_each rs (plain_told told said flag tells) count) (none_sent_by told said tells none_sent')
+        (own_answers told (own_told told said flag tells))
 
     pub call_read : (c : Call) (told : List Record) → IsDone l s (Calls c) → (Builds s.end (Calls c) → ⊥)
         → AllByRecursion (HasCountOn kind l) told
         → logged sent told ≡ log_by side (station_of (other side) a) s.end (Calls c)
-        → Reads kinds kind l j (happens a (at_side side (Calls c))) (next l a m (at_side side (Calls c)) r.lived) told
+        → Reads a kinds kind l j (happens a (at_side side (Calls c))) (next l a m (at_side side (Calls c)) r.lived) told
     call_read c told done none has logs =
         let plain = plain_logs side 0 s c none done.2 in
         act_read (Calls c) told (told_of s.end c) done none (call_comes side c m.pdus)
@@ -163,7 +172,7 @@ module _ (kinds : List (Option Layout)) (kind : PdcpKind) (l : ℕ)
         → coming_in (other side) (at_side side x) m.pdus ≡ [] → calls_by (station_of (other side) a) x ≡ []
         → log_by side (station_of (other side) a) s.end x ≡ [] → AllByRecursion (HasCountOn kind l) told
         → logged sent told ≡ log_by side (station_of (other side) a) s.end x
-        → Reads kinds kind l j (happens a (at_side side x)) (next l a m (at_side side x) r.lived) told
+        → Reads a kinds kind l j (happens a (at_side side x)) (next l a m (at_side side x) r.lived) told
     rest_read x told done none quiet no_calls no_log has logs =
         act_read x told [] done none quiet
         (of_side x [] (read_as (has_more b.pdcp) told) []
@@ -185,7 +194,7 @@ module _ (kinds : List (Option Layout)) (kind : PdcpKind) (l : ℕ)
         → logged_at sent (records.Air (heard_by side) Got heard) ≡ Hears side block.process block.octets ∷ []
         → logged (flight_behind (records.Air (heard_by side) Got heard) sent) told
         ≡ all_tell side (told_of s.end (Receive block.octets))
-        → Reads kinds kind l j (happens a (at_side side (Comes k))) (next l a m (at_side side (Comes k)) r.lived)
+        → Reads a kinds kind l j (happens a (at_side side (Comes k))) (next l a m (at_side side (Comes k)) r.lived)
         (records.Air (heard_by side) Got heard ∷ told)
     got_read k block heard told at is' has first logs =
         let flag = has_more b.pdcp in
@@ -211,7 +220,7 @@ module _ (kinds : List (Option Layout)) (kind : PdcpKind) (l : ℕ)
         (ap (λ (rs : List Record). got ∷ rs) (records_read flag told)) (log ∙ sym (log_at_side side a x))
         (OfComing side k block flag Got heard ys refl refl refl at (sent_last_is k block at is') of)
         (λ now count. got_truly air ys (plain_all kinds kind l side ys own) refl count)
-        (λ own'. names_behind own' heard told said logs (ends_send_as_they_build s.end (Receive block.octets) refl))
+        (λ own'. names_behind own' heard told said logs (ends_send_as_they_build s.end (Receive block.octets) refl)) (tt, own_answers told own)
       where
         -- behind it not more are told of than were ignored as it came
         got_truly : (air : ReadRecord) (ys : List ReadRecord) → AllByRecursion (λ (x : ReadRecord). IsPlain x.one) ys
@@ -335,7 +344,7 @@ module _ (kinds : List (Option Layout)) (kind : PdcpKind) (l : ℕ)
         → logged_at (flight_in xs sent)
         (records.Block (sent_by side) (bs.turn.tti % 8) true version (octets_of s x bs))
         ≡ EndBuilds side (bs.turn.tti % 8) (octets_of s x bs) ∷ []
-        → Reads kinds kind l j (happens a (at_side side x)) (next l a m (at_side side x) r.lived)
+        → Reads a kinds kind l j (happens a (at_side side x)) (next l a m (at_side side x) r.lived)
         (xs ++ records.Block (sent_by side) (bs.turn.tti % 8) true version (octets_of s x bs) ∷ [])
     built_read x bs xs others version done has logs right last =
         let flag = has_more b.pdcp in
@@ -367,3 +376,4 @@ module _ (kinds : List (Option Layout)) (kind : PdcpKind) (l : ℕ)
         (λ own. told_more own kinds xs (block ∷ []) none_named
         ∙ (ap (told_to own kinds block) (names_told own side kinds said xs sent none_named logs)
         ∙ block_closes kinds own side said process version octets form))
+        (each_then (IsAnswered l a) rs (new ∷ []) (own_answers xs (own_told xs said flag logs)) (tt, tt))

@@ -42,7 +42,11 @@ use Rattle.law_sound.specs.StepReading.{IsFlightOf, StepsAreRead}
 use Rattle.law_sound.proofs.LogEntries.{logs_split, first_entry, entry_is}
 use Rattle.law_sound.proofs.StepLogs.{none_named, going_comes, none_comes, resends_none, silent_none}
 use Rattle.law_sound.proofs.StepLogs.{next}
-use Rattle.law_sound.proofs.StepReads.{Reads, both_read, silent_read, step_read}
+use Rattle.law_sound.proofs.StepReads.{Reads, both_truly, both_read, silent_read, step_read}
+use Rattle.law_sound.proofs.StepLogs.{all_then, records_then}
+use Rattle.law_sound.specs.LoggedRecords.{records_of}
+use Rattle.law_sound.specs.StepReading.{AreTruly, AreStepsRead}
+use Rattle.law_sound.specs.BesideLaws.{ReadRecord}
 use Rattle.law_sound.proofs.StepActs.{call_read, rest_read, got_read, built_read}
 use Rattle.law_sound.proofs.StepNames.{processes_known, told_more}
 use Rattle.law_sound.proofs.StepRecords.{building_log}
@@ -63,29 +67,29 @@ module _ (kinds : List (Option Layout)) (kind : PdcpKind) (l : ℕ)
   behind_silent : (silent told : List Record) → logged sent silent ≡ [] → (s : Step)
       → ((i : Journal Histories) → (q : IsRead kind l a m i)
       → ((side : Side) → (sending_of side i).process ≡ process_of side (flight_in silent sent))
-      → Reads kinds kind l i (happens a s) (next l a m s q.lived) told)
-      → Reads kinds kind l j (happens a s) (next l a m s r.lived) (silent ++ told)
+      → Reads a kinds kind l i (happens a s) (next l a m s q.lived) told)
+      → Reads a kinds kind l j (happens a s) (next l a m s r.lived) (silent ++ told)
   behind_silent silent told none s more =
-      let p = silent_read kinds kind l a m sent j silent r none in
+      let p = silent_read kinds kind l a a m sent j silent r none in
       let i = behind_all kinds p.all.reads j in
-      both_read kinds kind l j a (happens a s) m (next l a m s r.lived) silent told p.all
-      (subst (λ (h : AreLived l a m.pdus m.down m.up). Reads kinds kind l i (happens a s) (next l a m s h) told) p.same
+      both_read kinds kind l a j a (happens a s) m (next l a m s r.lived) silent told p.all
+      (subst (λ (h : AreLived l a m.pdus m.down m.up). Reads a kinds kind l i (happens a s) (next l a m s h) told) p.same
       (more i p.all.read
       (λ side. processes_known kinds p.all.reads side j sent (flight_is side)
       ∙ ap (λ (zs : List Record). process_of side (flight_in zs sent)) p.all.are)))
 
   -- and before some
-  before_silent : (told silent : List Record) (b : Air) (n : Moment) → Reads kinds kind l j b n told
-      → logged (flight_in told sent) silent ≡ [] → Reads kinds kind l j b n (told ++ silent)
+  before_silent : (told silent : List Record) (b : Air) (n : Moment) → Reads a kinds kind l j b n told
+      → logged (flight_in told sent) silent ≡ [] → Reads a kinds kind l j b n (told ++ silent)
   before_silent told silent b n p none =
-      both_read kinds kind l j b b n n told silent p
-      (silent_read kinds kind l b n (flight_in told sent) (behind_all kinds p.reads j) silent p.read none).all
+      both_read kinds kind l a j b b n n told silent p
+      (silent_read kinds kind l a b n (flight_in told sent) (behind_all kinds p.reads j) silent p.read none).all
 
   coming_read : (side : Side) (k : ℕ) (block : Block) (told : List Record)
       → slice_get (station_of (other side) a).blocks k ≡ Some block → AllByRecursion (HasCountOn kind l) told
       → logged sent told ≡ Hears side block.process block.octets
       ∷ all_tell side (told_of (station_of side a).end (Receive block.octets))
-      → Reads kinds kind l j (happens a (at_side side (Comes k))) (next l a m (at_side side (Comes k)) r.lived) told
+      → Reads a kinds kind l j (happens a (at_side side (Comes k))) (next l a m (at_side side (Comes k)) r.lived) told
   coming_read side k block told at has logs =
       let said = told_of (station_of side a).end (Receive block.octets) in
       let f = first_entry told sent (Hears side block.process block.octets) (all_tell side said) logs in
@@ -93,7 +97,7 @@ module _ (kinds : List (Option Layout)) (kind : PdcpKind) (l : ℕ)
       let e = entry_is before f.one (Hears side block.process block.octets) f.one_logs in
       let counts = rest (HasCountOn kind l) f.silent (f.one ∷ f.behind)
       (subst (AllByRecursion (HasCountOn kind l)) f.told_is has) in
-      subst (Reads kinds kind l j (happens a (at_side side (Comes k))) (next l a m (at_side side (Comes k)) r.lived))
+      subst (Reads a kinds kind l j (happens a (at_side side (Comes k))) (next l a m (at_side side (Comes k)) r.lived))
       (sym (f.told_is ∙ ap (λ (one : Record). f.silent ++ one ∷ f.behind) e.is))
       (behind_silent f.silent (records.Air (heard_by side) Got e.heard ∷ f.behind) f.silent_logs
       (at_side side (Comes k))
@@ -106,7 +110,7 @@ module _ (kinds : List (Option Layout)) (kind : PdcpKind) (l : ℕ)
   building_read : (side : Side) (x : Act) (bs : Builds (station_of side a).end x) (told others : List Record)
       → IsDone l (station_of side a) x → AllByRecursion (HasCountOn kind l) told → Right (told ++ others)
       → logged sent told ≡ log_by side (station_of (other side) a) (station_of side a).end x
-      → Reads kinds kind l j (happens a (at_side side x)) (next l a m (at_side side x) r.lived) told
+      → Reads a kinds kind l j (happens a (at_side side x)) (next l a m (at_side side x) r.lived) told
   building_read side x bs told others done has right logs =
       let e = (station_of side a).end in
       let o = station_of (other side) a in
@@ -144,7 +148,7 @@ module _ (kinds : List (Option Layout)) (kind : PdcpKind) (l : ℕ)
       ap (λ (z : Flight). logged z f.behind)
       (sym (flight_more xs (block ∷ []) sent) ∙ ap (flight_behind block) same)
       ∙ (ap (λ (one : Record). logged (flight_behind one before) f.behind) (sym b.is) ∙ f.behind_logs) in
-      subst (Reads kinds kind l j (happens a (at_side side x)) (next l a m (at_side side x) r.lived)) (sym told_is)
+      subst (Reads a kinds kind l j (happens a (at_side side x)) (next l a m (at_side side x) r.lived)) (sym told_is)
       (before_silent (xs ++ block ∷ []) f.behind _ _
       (built_read kinds kind l known a m sent j r side x bs xs
       (f.behind ++ others) b.version done counts tells now last) none)
@@ -153,12 +157,12 @@ module _ (kinds : List (Option Layout)) (kind : PdcpKind) (l : ℕ)
   side_read : (side : Side) (x : Act) (told others : List Record) → IsDone l (station_of side a) x
       → AllByRecursion (HasCountOn kind l) told → Right (told ++ others)
       → logged sent told ≡ log_by side (station_of (other side) a) (station_of side a).end x
-      → Reads kinds kind l j (happens a (at_side side x)) (next l a m (at_side side x) r.lived) told
+      → Reads a kinds kind l j (happens a (at_side side x)) (next l a m (at_side side x) r.lived) told
   side_read side (Calls (Visits t)) told others done has right logs = by
       (visit t.tti t.order (station_of side a).end) refl
     where
       by : (v : Visit) → visit t.tti t.order (station_of side a).end ≡ v
-          → Reads kinds kind l j (happens a (at_side side (Calls (Visits t))))
+          → Reads a kinds kind l j (happens a (at_side side (Calls (Visits t))))
           (next l a m (at_side side (Calls (Visits t))) r.lived) told
       by New q =
           building_read side (Calls (Visits t))
@@ -174,7 +178,7 @@ module _ (kinds : List (Option Layout)) (kind : PdcpKind) (l : ℕ)
   side_read side (Comes k) told others done has right logs = by (slice_get (station_of (other side) a).blocks k) refl
     where
       by : (o : Option Block) → slice_get (station_of (other side) a).blocks k ≡ o
-          → Reads kinds kind l j (happens a (at_side side (Comes k))) (next l a m (at_side side (Comes k)) r.lived) told
+          → Reads a kinds kind l j (happens a (at_side side (Comes k))) (next l a m (at_side side (Comes k)) r.lived) told
       by None q =
           rest_read kinds kind l known a m sent j r side (Comes k) told tt (λ bs. let no = bs.is in absurd cc)
           (none_comes l side k a m.pdus m.down m.up r.lived q) (ap brought q)
@@ -188,14 +192,14 @@ module _ (kinds : List (Option Layout)) (kind : PdcpKind) (l : ℕ)
 
   any_read : (s : Step) (told others : List Record) → IsGiven l a s → AllByRecursion (HasCountOn kind l) told
       → Right (told ++ others) → logged sent told ≡ log_at a (InLife s)
-      → Reads kinds kind l j (happens a s) (next l a m s r.lived) told
+      → Reads a kinds kind l j (happens a s) (next l a m s r.lived) told
   any_read (AtNb x) told others g has right logs = side_read Nb x told others g has right logs
   any_read (AtUe x) told others g has right logs = side_read Ue x told others g has right logs
   any_read Passes told others g has right logs =
-      subst (Reads kinds kind l j (happens a Passes) (next l a m Passes r.lived)) (append-nil told)
+      subst (Reads a kinds kind l j (happens a Passes) (next l a m Passes r.lived)) (append-nil told)
       (behind_silent told [] logs Passes
       (λ i q process. step_read kinds kind l a m (flight_in told sent) i q Passes [] [] g refl refl (OfTti refl refl)
-      (λ now count. tt) (λ side. refl)))
+      (λ now count. tt) (λ side. refl) tt))
 
 -- ---- all steps
 
@@ -203,18 +207,24 @@ record Walked (kinds : List (Option Layout)) (kind : PdcpKind) (l : ℕ) (steps 
     (j : Journal Histories) (told : List Record) : Type 0 where
   last : Moment
   over : GoOver l steps a m last
-  all : Reads kinds kind l j (lives steps a) last told
+  reads : List ReadRecord
+  are : records_of reads ≡ told
+  each : AreStepsRead l steps a reads
+  read : IsRead kind l (lives steps a) last (behind_all kinds reads j)
+  statuses : AreTruly kinds l j reads
+  none : (side : Side) → all_told side kinds told none_named ≡ none_named
 
 steps_read : StepsAreRead
 steps_read kinds kind l steps a m sent j told others known living life r flight logs has formed = record {
-  reads = w.all.reads;
-  are = w.all.are;
+  reads = w.reads;
+  are = w.are;
   last = w.last;
   over = w.over;
-  read = w.all.read;
-  statuses = w.all.statuses;
+  each = w.each;
+  read = w.read;
+  statuses = w.statuses;
   formed = λ side. sound side kinds others none_named
-      (ap (λ (b : Building). (ends (all_told side kinds others b)).right) (sym (w.all.none side))
+      (ap (λ (b : Building). (ends (all_told side kinds others b)).right) (sym (w.none side))
       ∙ (ap (λ (b : Building). (ends b).right) (sym (told_more side kinds told others none_named)) ∙ right side));
 }
   where
@@ -226,11 +236,18 @@ steps_read kinds kind l steps a m sent j told others known living life r flight 
         → logged sent told ≡ log_of steps a → AllByRecursion (HasCountOn kind l) told
         → ((side : Side) → (ends (all_told side kinds (told ++ others) none_named)).right ≡ true)
         → Walked kinds kind l steps a m j told
-    walk [] a m sent j told living life r flight logs has right = record {
-      last = m;
-      over = refl;
-      all = (silent_read kinds kind l a m sent j told r logs).all;
-    }
+    walk [] a m sent j told living life r flight logs has right =
+        let silent = (silent_read kinds kind l a a m sent j told r logs).all in
+        record {
+          last = m;
+          over = refl;
+          reads = silent.reads;
+          are = silent.are;
+          each = (sent, ap (logged sent) silent.are ∙ logs);
+          read = silent.read;
+          statuses = silent.statuses;
+          none = silent.none;
+        }
     walk (InLife s ∷ steps) a m sent j told living life r flight logs has right =
         let p = logs_split told sent (log_at a (InLife s)) (log_of steps (happens a s)) logs in
         let one = subst (AllByRecursion (HasCountOn kind l)) p.told_is has in
@@ -255,9 +272,27 @@ steps_read kinds kind l steps a m sent j told others known living life r flight 
         record {
           last = rest'.last;
           over = (r.lived, rest'.over);
-          all = subst (Reads kinds kind l j (lives (InLife s ∷ steps) a) rest'.last) (sym p.told_is)
-              (both_read kinds kind l j (happens a s) (lives steps (happens a s)) _ rest'.last p.first p.behind
-              first rest'.all);
+          reads = first.reads ++ rest'.reads;
+          are = records_then first.reads rest'.reads
+              ∙ (ap (λ (zs : List Record). zs ++ records_of rest'.reads) first.are
+              ∙ (ap (λ (zs : List Record). p.first ++ zs) rest'.are ∙ sym p.told_is));
+          each = record {
+            now = first.reads;
+            later = rest'.reads;
+            are = refl;
+            first = record {
+              sent = sent;
+              logs = ap (logged sent) first.are ∙ p.first_logged;
+              answered = first.answered;
+            };
+            others = rest'.each;
+          };
+          read = subst (IsRead kind l (lives steps (happens a s)) rest'.last)
+              (sym (all_then kinds first.reads rest'.reads j)) rest'.read;
+          statuses = both_truly kinds kind l j first.reads rest'.reads first.statuses rest'.statuses;
+          none = λ side. ap (λ (zs : List Record). all_told side kinds zs none_named) p.told_is
+              ∙ (told_more side kinds p.first p.behind none_named
+              ∙ (ap (all_told side kinds p.behind) (first.none side) ∙ rest'.none side));
         }
     walk (Moves keys ∷ steps) a m sent j told living life r flight logs has right = absurd life
 

@@ -39,6 +39,11 @@ use Rattle.law_sound.specs.LivedHistories.{LiveOn}
 use Rattle.law_sound.specs.LoggedRecords.{records_of, IsOwn, IsTold}
 use Rattle.law_sound.specs.NamedLogs.{named_over}
 use Rattle.law_sound.specs.StepReading.{read_as, ignored_so_far, IsTrueOf, AreTrueAt, TellTruly, AreTruly, IsRead}
+use Rattle.law_sound.specs.StepReading.{has_something, RecordIsAnswered, IsAnswered}
+use Rattle.law_bearer.proofs.AnyBearer.SenderCalls.{all_then as each_then}
+use Rattle.std.proofs.lemmas.Bool.{eq-eqb}
+use Rattle.bearer_types.specs.declared.event.Event.TheVariants as events
+use Rattle.l2_types.specs.declared.event.Clock.TheVariants.{Poll}
 use Rattle.law_sound.proofs.BesideSteps.{steps_are_gathered}
 use Rattle.law_sound.proofs.LivedFails.{AreThere, lived_there}
 use Rattle.law_sound.proofs.LivedHistories.{lives_go_on_beside}
@@ -64,13 +69,14 @@ Counts kinds l j rs = (side : Side)
     → ignored_so_far side l (behind_all kinds rs j)
     ≡ ignored_so_far side l j + ignored_told side l (records_of rs)
 
-pub record Reads (kinds : List (Option Layout)) (kind : PdcpKind) (l : ℕ) (j : Journal Histories) (b : Air) (n : Moment)
+pub record Reads (before : Air) (kinds : List (Option Layout)) (kind : PdcpKind) (l : ℕ) (j : Journal Histories) (b : Air) (n : Moment)
     (told : List Record) : Type 0 where
   pub reads : List ReadRecord
   pub are : records_of reads ≡ told
   pub read : IsRead kind l b n (behind_all kinds reads j)
   pub statuses : AreTruly kinds l j reads
   pub none : (side : Side) → all_told side kinds told none_named ≡ none_named
+  pub answered : AllByRecursion (IsAnswered l before) reads
 
 module _ (kinds : List (Option Layout)) (kind : PdcpKind) (l : ℕ) where
   pub both_truly : (j : Journal Histories) (xs ys : List ReadRecord) → AreTruly kinds l j xs
@@ -87,16 +93,17 @@ module _ (kinds : List (Option Layout)) (kind : PdcpKind) (l : ℕ) where
         omega (arith, then', told, parts, first, last);
   }
 
-  pub both_read : (j : Journal Histories) (b c : Air) (n o : Moment) (xs ys : List Record)
-      → (p : Reads kinds kind l j b n xs)
-      → Reads kinds kind l (behind_all kinds p.reads j) c o ys → Reads kinds kind l j c o (xs ++ ys)
-  both_read j b c n o xs ys p q = record {
+  pub both_read : (a : Air) (j : Journal Histories) (b c : Air) (n o : Moment) (xs ys : List Record)
+      → (p : Reads a kinds kind l j b n xs)
+      → Reads a kinds kind l (behind_all kinds p.reads j) c o ys → Reads a kinds kind l j c o (xs ++ ys)
+  both_read a j b c n o xs ys p q = record {
     reads = p.reads ++ q.reads;
     are = records_then p.reads q.reads
         ∙ (ap (λ (zs : List Record). zs ++ records_of q.reads) p.are ∙ ap (λ (zs : List Record). xs ++ zs) q.are);
     read = subst (IsRead kind l c o) (sym (all_then kinds p.reads q.reads j)) q.read;
     statuses = both_truly j p.reads q.reads p.statuses q.statuses;
     none = λ side. told_more side kinds xs ys none_named ∙ (ap (all_told side kinds ys) (p.none side) ∙ q.none side);
+    answered = each_then (IsAnswered l a) p.reads q.reads p.answered q.answered;
   }
 
   -- ---- records that log nothing
@@ -116,14 +123,44 @@ module _ (kinds : List (Option Layout)) (kind : PdcpKind) (l : ℕ) where
       (other_records_leave kinds x.more l a m.pdus m.down m.up x.one j (leaves_by l x.one nb.0 ue.0) g)
 
   -- at the same moment
-  pub record ReadsStill (a : Air) (m : Moment) (j : Journal Histories) (r : IsRead kind l a m j) (told : List Record)
+  pub record ReadsStill (before a : Air) (m : Moment) (j : Journal Histories) (r : IsRead kind l a m j) (told : List Record)
       : Type 0 where
-    pub all : Reads kinds kind l j a m told
+    pub all : Reads before kinds kind l j a m told
     pub same : all.read.lived ≡ r.lived
 
-  pub silent_read : (a : Air) (m : Moment) (sent : Flight) (j : Journal Histories) (told : List Record)
-      → (r : IsRead kind l a m j) → logged sent told ≡ [] → ReadsStill a m j r told
-  silent_read a m sent j told r logs =
+  -- none of both sides' own answers
+  silent_answered : (before : Air) (xs : List ReadRecord) → AllByRecursion (λ (x : ReadRecord). IsOwn l Nb x.one) xs
+      → AllByRecursion (λ (x : ReadRecord). IsOwn l Ue x.one) xs → AllByRecursion (IsAnswered l before) xs
+  silent_answered before [] nb ue = tt
+  silent_answered before (x ∷ xs) nb ue = (by x.one x.more nb.0 ue.0, silent_answered before xs nb.1 ue.1)
+    where
+      both : (own : Side) → own ≡ Nb → own ≡ Ue → ⊥
+      both own p q = let no : Nb ≡ Ue = sym p ∙ q in cc
+
+      by : (one : Record) (more : Bool) → IsOwn l Nb one → IsOwn l Ue one → RecordIsAnswered l before one more
+      by (records.Of own (events.Expired lcid Poll)) more p q =
+          λ same. absurd (both own (p (eq-eqb lcid l same)) (q (eq-eqb lcid l same)))
+      by (records.Of own e) more p q = tt
+      by one more p q = tt
+
+  -- those that its own side's end answers
+  pub own_answered : (side : Side) (before : Air) (more : Bool) (told : List Record)
+      → more ≡ has_something (flow l (station_of side before).end)
+      → AllByRecursion (λ (x : ReadRecord). IsOwn l side x.one) (read_as more told)
+      → AllByRecursion (IsAnswered l before) (read_as more told)
+  own_answered side before more [] is own = tt
+  own_answered side before more (one ∷ told) is own = (by one own.0, own_answered side before more told is own.1)
+    where
+      by : (one : Record) → IsOwn l side one → RecordIsAnswered l before one more
+      by (records.Of own (events.Expired lcid Poll)) p =
+          λ same. subst (λ (z : Side). more ≡ has_something (flow l (station_of z before).end))
+          (sym (p (eq-eqb lcid l same))) is
+      by (records.Of own e) p = tt
+      by one p = tt
+
+  pub silent_read : (before a : Air) (m : Moment) (sent : Flight) (j : Journal Histories) (told : List Record)
+      → (r : IsRead kind l a m j) → logged sent told ≡ [] → ReadsStill before a m j r told
+  silent_read before a m sent j told r logs =
       let xs = read_as false told in
       let are = records_read false told in
       let none : logged sent (records_of xs) ≡ [] = ap (logged sent) are ∙ logs in
@@ -135,7 +172,7 @@ module _ (kinds : List (Option Layout)) (kind : PdcpKind) (l : ℕ) where
       ∙ ap (λ (hs : List LogEntry). told_ignored (on_channel l side hs)) none
       in
       let same = λ (side : Side). plain_same kinds l xs side j (plain_all Nb xs nb) in
-      let whole : Reads kinds kind l j a m told = record {
+      let whole : Reads before kinds kind l j a m told = record {
         reads = xs;
         are = are;
         read = record {
@@ -152,6 +189,7 @@ module _ (kinds : List (Option Layout)) (kind : PdcpKind) (l : ℕ) where
           all = λ side. let none' = zero' side in let as_before = same side in omega (arith, none', as_before);
         };
         none = λ side. silent_all side Nb kinds told sent none_named logs;
+        answered = silent_answered before xs nb ue;
       } in
       record { all = whole; same = refl }
 
@@ -200,9 +238,9 @@ module _ (kinds : List (Option Layout)) (kind : PdcpKind) (l : ℕ) where
         → logged sent told ≡ log_at a (InLife s) → AreOfStep kinds l a m.pdus m.down m.up r.lived j s rs
         → (IsGatheredBehind l a s m.pdus m.down m.up r.lived (behind_all kinds rs j) → Counts kinds l j rs
         → TellTruly kinds l (said_at l j) j rs)
-        → ((side : Side) → all_told side kinds told none_named ≡ none_named)
-        → Reads kinds kind l j (happens a s) (next l a m s r.lived) told
-    step_read s told rs g are logs of each none =
+        → ((side : Side) → all_told side kinds told none_named ≡ none_named) → AllByRecursion (IsAnswered l a) rs
+        → Reads a kinds kind l j (happens a s) (next l a m s r.lived) told
+    step_read s told rs g are logs of each none answered =
         let now = steps_are_gathered kinds l a s m.pdus m.down m.up j rs r.lived of r.gathered in
         let log : logged sent (records_of rs) ≡ log_at a (InLife s) = ap (logged sent) are ∙ logs in
         let count = counts s rs g log now in
@@ -218,6 +256,7 @@ module _ (kinds : List (Option Layout)) (kind : PdcpKind) (l : ℕ) where
           };
           statuses = record { each = each now count; all = count };
           none = none;
+          answered = answered;
         }
       where
         new_end : (side : Side) → HaveComeNew l a → HasComeNew side l (end_at side a)

@@ -2,12 +2,18 @@
 -- to the moment behind them; the STATUS PDUs in new blocks are true of the flows that they speak
 -- of, and just those that are ignored as they come are told of (docs/formats/JOURNAL.md; TS 36.321
 -- 5.3.2, 5.4.2, TS 36.322 5.2.1, 5.2.3).
-use Rattle.std.specs.Prelude.{◌≡◌, ℕ, ◌+◌, ◌≤◌, Bool, true, List, [], ◌∷◌, ◌++◌, map, Option}
+use Rattle.std.specs.Prelude.{◌≡◌, ℕ, ◌+◌, ◌≤◌, Bool, true, false, List, [], ◌∷◌, ◌++◌, map, Option}
 use Rattle.std.specs.Prelude.{Some, slice_index_or, None}
 use Rattle.std.specs.List.{AllByRecursion, filter}
 use Rattle.air_record.specs.declared.record.Record.{Record}
 use Rattle.air_record.specs.declared.record.Record.TheVariants as records
+use Rattle.bearer.specs.Acknowledged.State.{has_more}
+use Rattle.bearer.specs.declared.flow.Flow.{Flow}
+use Rattle.bearer.specs.declared.flow.Flow.TheVariants.{Am}
+use Rattle.bearer_types.specs.declared.event.Event.{Event}
+use Rattle.bearer_types.specs.declared.event.Event.TheVariants as events
 use Rattle.bearer_types.specs.Sides.{other, sender_of}
+use Rattle.l2_types.specs.declared.event.Clock.TheVariants.{Poll}
 use Rattle.l2_types.specs.declared.side.Side.{Side}
 use Rattle.pdcp_pdu.specs.declared.pdu.PdcpKind.{PdcpKind}
 use Rattle.pdu_show.specs.declared.kinds.Layout.{Layout}
@@ -25,13 +31,13 @@ use Rattle.journal_flows.specs.declared.parcels.Parcel.TheVariants.{Octets, Piec
 use Rattle.journal_flows.specs.FlowsTold.{Histories, histories}
 use Rattle.journal_flows.specs.Gathering.{Journal, sending_of, sent_last, behind_record}
 use Rattle.journal_status.specs.RightStatus.{tells_ignored, ignored_told}
-use Rattle.law_deliver.specs.AmChannel.Lives.{AirStep, AreLiving, lives, end_at}
+use Rattle.law_deliver.specs.AmChannel.Lives.{AirStep, AreLiving, lives, lives_on, end_at}
 use Rattle.law_deliver.specs.AmFlow.Air.{Air}
 use Rattle.law_node.specs.Holding.{flow}
 use Rattle.law_node.specs.Names.{mode}
-use Rattle.law_run.specs.TwoEnds.Logs.{Flight, logged, log_of}
+use Rattle.law_run.specs.TwoEnds.Logs.{Flight, logged, log_at, log_of}
 use Rattle.law_run.specs.TwoEnds.Staying.{AreInLife}
-use Rattle.law_sound.specs.BesideLaws.{ReadRecord, behind_all, IsGatheredBeside}
+use Rattle.law_sound.specs.BesideLaws.{ReadRecord, behind_all, IsGatheredBeside, station_of}
 use Rattle.law_sound.specs.GatherLaws.{HasCount}
 use Rattle.law_sound.specs.LivedFails.{HaveComeNew}
 use Rattle.law_sound.specs.LivedHistories.{AreLived, Moment, GoOver}
@@ -46,6 +52,45 @@ read_as more told = map (λ (one : Record). record { more = more; one = one }) t
 abbrev pub HasCountOn : PdcpKind → ℕ → Record → Type 0
 HasCountOn kind l (records.Of side event) = is_on l event ≡ true → HasCount kind event
 HasCountOn kind l one = Unit {0}
+
+-- ---- the answers: whether PDCP has something for RLC at the end where t-PollRetransmit expires
+
+abbrev pub has_something : Flow → Bool
+has_something (Am b) = has_more b.pdcp
+has_something f = false
+
+-- as a step begins
+abbrev pub EventIsAnswered : ℕ → Air → Side → Event → Bool → Type 0
+EventIsAnswered l a side (events.Expired lcid Poll) more =
+    lcid ≡ l → more ≡ has_something (flow l (station_of side a).end)
+EventIsAnswered l a side event more = Unit {0}
+
+abbrev pub RecordIsAnswered : ℕ → Air → Record → Bool → Type 0
+RecordIsAnswered l a (records.Of side event) more = EventIsAnswered l a side event more
+RecordIsAnswered l a one more = Unit {0}
+
+abbrev pub IsAnswered : ℕ → Air → ReadRecord → Type 0
+IsAnswered l a x = RecordIsAnswered l a x.one x.more
+
+-- the records of a step are what both ends log in it
+pub record IsStepRead (l : ℕ) (a : Air) (s : AirStep) (xs : List ReadRecord) : Type 0 where
+  pub sent : Flight
+  pub logs : logged sent (records_of xs) ≡ log_at a s
+  pub answered : AllByRecursion (IsAnswered l a) xs
+
+-- those of the first step, and those behind them
+pub record FirstAndOthers (P Q : List ReadRecord → Type 0) (xs : List ReadRecord) : Type 0 where
+  pub now : List ReadRecord
+  pub later : List ReadRecord
+  pub are : xs ≡ now ++ later
+  pub first : P now
+  pub others : Q later
+
+-- those of steps; behind the last stand some that log nothing
+abbrev pub AreStepsRead : ℕ → List AirStep → Air → List ReadRecord → Type 0
+AreStepsRead l [] a xs = (sent : Flight) × (logged sent (records_of xs) ≡ [])
+AreStepsRead l (s ∷ steps) a xs =
+    FirstAndOthers (IsStepRead l a s) (AreStepsRead l steps (lives_on a s)) xs
 
 -- ---- the STATUS PDUs that they tell of
 
@@ -110,6 +155,7 @@ pub record AreReadTo (kinds : List (Option Layout)) (kind : PdcpKind) (l : ℕ) 
   pub are : records_of reads ≡ told
   pub last : Moment
   pub over : GoOver l steps a m last
+  pub each : AreStepsRead l steps a reads
   pub read : IsRead kind l (lives steps a) last (behind_all kinds reads j)
   pub statuses : AreTruly kinds l j reads
   pub formed : AreFormed kinds others
