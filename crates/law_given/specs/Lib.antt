@@ -1,0 +1,2 @@
+pub mod OneBearer
+pub mod BearerRecords

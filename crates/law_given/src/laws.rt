@@ -1,0 +1,87 @@
+//! What PDCP gives RLC of acknowledged data, as a bearer's calls change it, beside what a checker
+//! gathers of it. A law is the contract of a function that does nothing.
+
+ghost use Rattle.journal_given.specs.Supplies.{accounts, histories, History};
+ghost use Rattle.journal_takes.specs.FlowTakes.{FlowTakes};
+ghost use Rattle.law_given.specs.BearerRecords.{GroupRightOnOneBearer, MayTakeByOneBearer};
+ghost use Rattle.law_given.specs.BearerRecords.{RightOnOneBearer, BearersStand, LandedByHistories};
+ghost use Rattle.law_given.specs.BearerRecords.{FlowsSayOnOneBearer, OneBearerByHistories};
+ghost use Rattle.law_given.specs.BearerRecords.{MayTakeByRecords, RightByRecords, WaitsByRecords};
+ghost use Rattle.law_given.specs.OneBearer.{OneBearerByRecords, OneChannelBySteps};
+ghost use Rattle.law_given.specs.OneBearer.{OneChannelByGroups};
+
+/// What a record leaves of the bearer of a channel follows from the record, that bearer, and the
+/// accounts of its flows behind the record.
+pub fn one_bearer_by_records()
+    ensures histories { OneBearerByRecords History histories }
+    ensures accounts { OneBearerByRecords FlowTakes accounts }
+{}
+
+/// So what is gathered goes on alone on each channel: there are always 11, and a line, a record and
+/// the end of a group leave of one what follows from it.
+pub fn one_channel_by_steps()
+    ensures histories { OneChannelBySteps History histories }
+    ensures accounts { OneChannelBySteps FlowTakes accounts }
+{}
+
+/// And so it does behind the groups of a journal, behind the records of a group, and behind its
+/// first records.
+pub fn one_channel_by_groups()
+    ensures histories { OneChannelByGroups History histories }
+    ensures accounts { OneChannelByGroups FlowTakes accounts }
+{}
+
+/// The `take`, `report` and `discard` records of a group, and of a journal, are right exactly where
+/// those of each channel are, each by what the channel alone has before it.
+pub fn right_on_one_bearer()
+    ensures groups { GroupRightOnOneBearer }
+    ensures journals { RightOnOneBearer }
+{}
+
+/// Whether RLC may take anything as t-PollRetransmit of a side of a channel expires is told by that
+/// channel alone: by what the account of its acknowledged data has next, or by the SDUs that wait.
+pub fn may_take_by_one_bearer()
+    ensures { MayTakeByOneBearer }
+{}
+
+/// A channel has a bearer of acknowledged data exactly where its latest `bearer` line is of one.
+pub fn bearers_stand()
+    ensures histories { BearersStand History histories }
+    ensures accounts { BearersStand FlowTakes accounts }
+{}
+
+/// Behind any records with which a group begins, what RLC confirms, which reports come, and which
+/// COUNTs have come on a channel is what the histories of its flows say that the journal tells.
+pub fn flows_say_on_one_bearer()
+    ensures { FlowsSayOnOneBearer }
+{}
+
+/// So what a block that comes tells the bearer of acknowledged data of a channel follows from the
+/// histories of both its flows.
+pub fn landed_by_histories()
+    ensures { LandedByHistories }
+{}
+
+/// So the bearer of acknowledged data of a channel goes on, record by record and at the end of each
+/// group, by what is told of it and the histories of its flows.
+pub fn one_bearer_by_histories()
+    ensures { OneBearerByHistories }
+{}
+
+/// The `take`, `report` and `discard` records of a group are right where each is so by the bearer
+/// of its channel before it.
+pub fn right_by_records()
+    ensures { RightByRecords }
+{}
+
+/// So do the SDUs that wait at a side of a channel where its bearer is of another kind, by what is
+/// submitted, taken and discarded.
+pub fn waits_by_records()
+    ensures { WaitsByRecords }
+{}
+
+/// Whether RLC may take anything as t-PollRetransmit expires behind the first records of a group is
+/// told by the bearer of the channel there, or by the SDUs that wait.
+pub fn may_take_by_records()
+    ensures { MayTakeByRecords }
+{}
