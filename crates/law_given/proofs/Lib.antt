@@ -5,3 +5,10 @@ pub mod BearerRecordsStand
 pub mod BearerRecordsFlows
 pub mod BearerRecordsHistories
 pub mod BearerRecordsWaits
+pub mod ConfirmingSizes
+pub mod ConfirmingRuns
+pub mod Confirming
+pub mod ConfirmingOnly
+pub mod ConfirmingStream
+pub mod ConfirmingUps
+pub mod ConfirmingFlows

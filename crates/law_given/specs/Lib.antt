@@ -1,2 +1,3 @@
 pub mod OneBearer
 pub mod BearerRecords
+pub mod Confirming

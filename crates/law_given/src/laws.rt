@@ -9,6 +9,10 @@ ghost use Rattle.law_given.specs.BearerRecords.{FlowsSayOnOneBearer, OneBearerBy
 ghost use Rattle.law_given.specs.BearerRecords.{MayTakeByRecords, RightByRecords, WaitsByRecords};
 ghost use Rattle.law_given.specs.OneBearer.{OneBearerByRecords, OneChannelBySteps};
 ghost use Rattle.law_given.specs.OneBearer.{OneChannelByGroups};
+ghost use Rattle.law_given.specs.Confirming.{SizesBeginTold, SizesGoOnTold, FlowsHaveSizesTold};
+ghost use Rattle.law_given.specs.Confirming.{ConfirmsAsTold, StatusesConfirmAsTold};
+ghost use Rattle.law_given.specs.Confirming.{OnlyStatusesConfirm, ConfirmedStays};
+ghost use Rattle.law_given.specs.Confirming.{FlowsHandUpAsTold};
 
 /// What a record leaves of the bearer of a channel follows from the record, that bearer, and the
 /// accounts of its flows behind the record.
@@ -84,4 +88,29 @@ pub fn waits_by_records()
 /// told by the bearer of the channel there, or by the SDUs that wait.
 pub fn may_take_by_records()
     ensures { MayTakeByRecords }
+{}
+
+/// A history that tells the calls of a flow's sender tells the sizes of the SDUs that RLC was given
+/// and of the data fields of the numbers; and so does the history of a flow's steps.
+pub fn sizes_are_told()
+    ensures begin { SizesBeginTold }
+    ensures go_on { SizesGoOnTold }
+    ensures flows { FlowsHaveSizesTold }
+{}
+
+/// The SDUs that the sender handed over as confirmed, with those that it will hand over next, are
+/// exactly those that the history of its flow says are confirmed, each once. As a STATUS comes, the
+/// sender adds to what it hands over next those that are confirmed behind it and weren't before it,
+/// ascending; whatever else happens, none is newly confirmed; and what is confirmed stays so.
+pub fn confirms_as_told()
+    ensures all { ConfirmsAsTold }
+    ensures news { StatusesConfirmAsTold }
+    ensures only { OnlyStatusesConfirm }
+    ensures stays { ConfirmedStays }
+{}
+
+/// SDUs are in sequence by the history of a flow exactly as far as its receiver handed them up or
+/// has them ready, and one is whole by it where all its octets have arrived.
+pub fn hands_up_as_told()
+    ensures { FlowsHandUpAsTold }
 {}
