@@ -12,3 +12,13 @@ pub mod ConfirmingOnly
 pub mod ConfirmingStream
 pub mod ConfirmingUps
 pub mod ConfirmingFlows
+pub mod SupplySaid
+pub mod Deeds
+pub mod SupplyReading
+pub mod Supplied
+pub mod Supplying
+pub mod SupplyConfirming
+pub mod SupplyLives
+pub mod SupplyQuiet
+pub mod Joined
+pub mod JoinedReports

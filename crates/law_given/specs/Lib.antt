@@ -1,3 +1,7 @@
 pub mod OneBearer
 pub mod BearerRecords
 pub mod Confirming
+pub mod Deeds
+pub mod Supplied
+pub mod SupplyLaws
+pub mod Joined

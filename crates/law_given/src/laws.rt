@@ -13,6 +13,12 @@ ghost use Rattle.law_given.specs.Confirming.{SizesBeginTold, SizesGoOnTold, Flow
 ghost use Rattle.law_given.specs.Confirming.{ConfirmsAsTold, StatusesConfirmAsTold};
 ghost use Rattle.law_given.specs.Confirming.{OnlyStatusesConfirm, ConfirmedStays};
 ghost use Rattle.law_given.specs.Confirming.{FlowsHandUpAsTold};
+ghost use Rattle.law_given.specs.Deeds.{DeedsTakeAlike};
+ghost use Rattle.law_given.specs.SupplyLaws.{CallsAreGathered, MoreIsTakeable, StatusesAreGathered};
+ghost use Rattle.law_given.specs.SupplyLaws.{DataIsGathered, SaidIsRead, ReportsCome};
+ghost use Rattle.law_given.specs.SupplyLaws.{ArrivalsTellNothing, EndsTellNothing, RefusedStay};
+ghost use Rattle.law_given.specs.SupplyLaws.{SuppliesBegin, LivesAreGathered};
+ghost use Rattle.law_given.specs.Joined.{BearersAreJoined, ReportsAreRead};
 
 /// What a record leaves of the bearer of a channel follows from the record, that bearer, and the
 /// accounts of its flows behind the record.
@@ -113,4 +119,80 @@ pub fn confirms_as_told()
 /// has them ready, and one is whole by it where all its octets have arrived.
 pub fn hands_up_as_told()
     ensures { FlowsHandUpAsTold }
+{}
+
+/// What each deed of an acknowledged data bearer makes of its PDCP sender is what happens to the
+/// sender: RLC takes what is next, or confirms what it was given at a place; a status report comes;
+/// an SDU is submitted or discarded; a TTI begins.
+pub fn deeds_take_alike()
+    ensures { DeedsTakeAlike }
+{}
+
+/// As a call of an acknowledged data bearer takes, submits or discards, what a checker gathers of
+/// the events that it tells stays beside PDCP's sender, and each of them is right: what RLC takes
+/// is what is takeable next, with the length of its SDU, and a status report says what has come.
+pub fn calls_are_gathered()
+    ensures { CallsAreGathered }
+{}
+
+/// RLC may take more of PDCP just where something is takeable by what is gathered.
+pub fn more_is_takeable()
+    ensures { MoreIsTakeable }
+{}
+
+/// As a STATUS arrives, PDCP's sender learns just what a checker finds confirmed among what it
+/// counted, in the same order.
+pub fn statuses_are_gathered()
+    ensures { StatusesAreGathered }
+{}
+
+/// As a data PDU arrives, PDCP's sender hears the status reports among what RLC hands up, and a
+/// checker hears them too.
+pub fn data_is_gathered()
+    ensures { DataIsGathered }
+{}
+
+/// A status report that says which COUNTs have come is read by the sender as just these, where its
+/// FMS lies in the window.
+pub fn said_is_read()
+    ensures { SaidIsRead }
+{}
+
+/// The status report is the first PDU of a life that has one: a checker waits for it until that has
+/// come.
+pub fn reports_come()
+    ensures { ReportsCome }
+{}
+
+/// What arrives, and what goes up as a life ends, tells nothing of what RLC takes; and what can't
+/// be read changes nothing.
+pub fn arrivals_tell_nothing()
+    ensures arrivals { ArrivalsTellNothing }
+    ensures ends { EndsTellNothing }
+    ensures refused { RefusedStay }
+{}
+
+/// PDCP's sender and what is gathered of it begin alike.
+pub fn supplies_begin()
+    ensures { SuppliesBegin }
+{}
+
+/// And so does the next life, which owes a report of what has come the other way.
+pub fn lives_are_gathered()
+    ensures { LivesAreGathered }
+{}
+
+/// As two ends go on over the air, each direction of a bearer of acknowledged data is a flow of
+/// PDCP through all lives and one of RLC in the life that runs, which belong to the bearers and to
+/// the account of what is told. What goes back without a COUNT is the report of what had come as the
+/// life began.
+pub fn bearers_are_joined()
+    ensures { BearersAreJoined }
+{}
+
+/// What PDCP gave RLC without a COUNT in the life that runs is read as a status report: its FMS as
+/// the first COUNT that hadn't come of the other direction as the life began, and it tells those
+/// that had. What has a COUNT is read as data.
+pub fn reports_are_read()
+    ensures { ReportsAreRead }
 {}
