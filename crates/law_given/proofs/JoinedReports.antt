@@ -1,6 +1,7 @@
 -- What PDCP gives in one direction is read as what it is: a status report tells what had come of the other one as the
 -- life began.
-use Rattle.std.proofs.Common.{◌≡◌, ◌≤◌, ℕ, zero, suc, ◌-◌, ◌%◌, ◌^◌, Bool, true, false, ◌||◌, List, [], ◌∷◌, ◌++◌, map, length, take}
+use Rattle.std.proofs.Common.{◌≡◌, ◌≤◌, ℕ, zero, suc, ◌-◌, ◌%◌, ◌^◌, Bool, true, false, ◌||◌, List, [], ◌∷◌, ◌++◌}
+use Rattle.std.proofs.Common.{map, length, take}
 use Rattle.std.proofs.Common.{drop, Option, Some, None, slice_get, append-nil, refl, ap, sym, subst, ◌∙◌, arith}
 use Rattle.std.specs.List.{AllByRecursion}
 use Rattle.bearer_types.specs.declared.config.BearerConfig.{BearerConfig}
@@ -23,7 +24,8 @@ use Rattle.pdcp_tx_store.specs.Waiting.{Waits}
 use Rattle.pdcp_tx_store.specs.declared.given.Sent.{Sent}
 use Rattle.law_pdcp.specs.AmPair.Between.{TellsWhatHasCome}
 use Rattle.law_pdcp.specs.AmPair.Expected.{IsExpected}
-use Rattle.law_pdcp.specs.AmPair.Flow.{Flow, Event, Sends, SetDiscard, Arrive, HandUp, Raise, Restart, IsGiven, AreGiven}
+use Rattle.law_pdcp.specs.AmPair.Flow.{Flow, Event, Sends, SetDiscard, Arrive, HandUp, Raise, Restart, IsGiven}
+use Rattle.law_pdcp.specs.AmPair.Flow.{AreGiven}
 use Rattle.law_pdcp.specs.AmPair.Flow.{happens, run_am_pdcp, am_pdcp_outset, passes, ended}
 use Rattle.law_pdcp.specs.OneEnd.Given.{nexts_of}
 use Rattle.law_pdcp.proofs.AmPair.Laws.{expected, run_sound, outset_sound}
@@ -104,10 +106,14 @@ up_come f begun (Some n) q h =
 
 call_come : (f : Flow) (begun : ℕ → Bool) (c : Call) → f.passed ≤ length f.stream → HasCome f begun
     → HasCome (happens f (Sends c)) begun
-call_come f begun (Submit sdu) few h = given_come f (happens f (Sends (Submit sdu))) begun None few refl refl (λ count. refl) h
-call_come f begun Take few h = given_come f (happens f (Sends Take)) begun (taking f.sender) few refl refl (λ count. refl) h
-call_come f begun (Confirm k) few h = given_come f (happens f (Sends (Confirm k))) begun None few refl refl (λ count. refl) h
-call_come f begun (Report m b) few h = given_come f (happens f (Sends (Report m b))) begun None few refl refl (λ count. refl) h
+call_come f begun (Submit sdu) few h = given_come f (happens f (Sends (Submit sdu))) begun None few refl refl
+    (λ count. refl) h
+call_come f begun Take few h = given_come f (happens f (Sends Take)) begun (taking f.sender) few refl refl
+    (λ count. refl) h
+call_come f begun (Confirm k) few h = given_come f (happens f (Sends (Confirm k))) begun None few refl refl
+    (λ count. refl) h
+call_come f begun (Report m b) few h = given_come f (happens f (Sends (Report m b))) begun None few refl refl
+    (λ count. refl) h
 call_come f begun (Owe r) few h = given_come f (happens f (Sends (Owe r))) begun None few refl refl (λ count. refl) h
 call_come f begun Tick few h = given_come f (happens f (Sends Tick)) begun None few refl refl (λ count. refl) h
 call_come f begun Late few h = given_come f (happens f (Sends Late)) begun None few refl refl (λ count. refl) h

@@ -135,8 +135,8 @@ abbrev pub is_among : List Next → ℕ → Bool
 is_among [] count = false
 is_among (n ∷ ns) count = is_count n.count count || is_among ns count
 
--- a status report is read, tells what had come of a flow as its life began, and its FMS is the first
--- COUNT that hadn't; since then RLC has handed up what else has come (TS 36.323 5.3)
+-- a status report is read, tells what had come of a flow as its life began, and its FMS is the
+-- first COUNT that hadn't; since then RLC has handed up what else has come (TS 36.323 5.3)
 pub record TellsBegun (f : Pdcp) (report : List ℕ) : Type 0 where
   pub fms : ℕ
   pub bitmap : List ℕ

@@ -184,8 +184,8 @@ pub fn lives_are_gathered()
 
 /// As two ends go on over the air, each direction of a bearer of acknowledged data is a flow of
 /// PDCP through all lives and one of RLC in the life that runs, which belong to the bearers and to
-/// the account of what is told. What goes back without a COUNT is the report of what had come as the
-/// life began.
+/// the account of what is told. What goes back without a COUNT is the report of what had come as
+/// the life began.
 pub fn bearers_are_joined()
     ensures { BearersAreJoined }
 {}
