@@ -22,3 +22,5 @@ pub mod SupplyLives
 pub mod SupplyQuiet
 pub mod Joined
 pub mod JoinedReports
+pub mod SupplyReports
+pub mod SupplyHearing

@@ -1,7 +1,7 @@
 -- One event at a time: PDCP's sender beside what is gathered of what it gives RLC.
-use Rattle.std.proofs.Common.{◌≡◌, ◌<◌, ◌≤◌, ℕ, ◌+◌, ◌-◌, ◌*◌, ◌==◌, Bool, true, false, ◌||◌, ◌&&◌, if◌then◌else◌, List}
-use Rattle.std.proofs.Common.{[], ◌∷◌, ◌++◌, length, map, take, Option, Some, None, option_map, slice_get, refl, ap}
-use Rattle.std.proofs.Common.{sym, ◌∙◌, arith, subst, inl, inr, length-append, append-nil, Result}
+use Rattle.std.proofs.Common.{◌≡◌, ◌<◌, ◌≤◌, ℕ, suc, ◌+◌, ◌-◌, ◌*◌, ◌==◌, Bool, true, false, ◌||◌, ◌&&◌, if◌then◌else◌}
+use Rattle.std.proofs.Common.{List, [], ◌∷◌, ◌++◌, length, map, take, Option, Some, None, option_map, slice_get, refl}
+use Rattle.std.proofs.Common.{ap, sym, ◌∙◌, arith, subst, inl, inr, length-append, append-nil, Result}
 use Rattle.std.specs.Prelude.{option_to_list, MatchOption, not, slice_index, ◌^◌, ◌%◌}
 use Rattle.std.proofs.lemmas.Bool.{eq-eqb, ne_eqb, and_from}
 use Rattle.std.proofs.lemmas.List.{length-drop}
@@ -41,7 +41,8 @@ use Rattle.law_takes.proofs.Histories.{waits-told}
 use Rattle.law_takes.proofs.Deeds.{deeds_are_told}
 use Rattle.law_given.specs.Supplied.{Progress, unconfirmed_from, IsReadAs, IsNoReport, IsPdu, ArePdus, AreCounts}
 use Rattle.law_given.specs.Supplied.{IsReportFirst, IsOwed, report_in, run_of, IsSupplied}
-use Rattle.law_given.specs.SupplyLaws.{supplied_by, supplied_all, AreRight, with_offered, MoreIsTakeable}
+use Rattle.law_given.specs.SupplyLaws.{supplied_by, supplied_all, AreRight, with_offered, GivenAreOffered}
+use Rattle.law_given.specs.SupplyLaws.{MoreIsTakeable}
 use Rattle.law_given.proofs.SupplyReading.{no_report}
 
 -- ---- behind events, what is gathered of them stands beside the sender, and each was right
@@ -487,3 +488,15 @@ takes-next p x s lcid bits kind h =
 
 pub more_is_takeable : MoreIsTakeable
 more_is_takeable p b s h = (offers_are_accounted b.pdcp.tx (account s.takes) h.told.accounted).some
+
+-- ---- what is given is what was offered
+
+as-many : (bits : ℕ) (said : CountsCome) (counts : List (Option ℕ)) (pdus : List (List ℕ))
+    → ArePdus bits said counts pdus → length counts ≡ length pdus
+as-many bits said [] [] h = refl
+as-many bits said [] (pdu ∷ pdus) h = absurd h
+as-many bits said (count ∷ counts) [] h = absurd h
+as-many bits said (count ∷ counts) (pdu ∷ pdus) h = ap suc (as-many bits said counts pdus h.1)
+
+pub given_are_offered : GivenAreOffered
+given_are_offered p x s h = h.many ∙ as-many s.bits s.said h.given p.offered h.pdus

@@ -47,7 +47,7 @@ listed-so : (q : ℕ → Bool) (n at : ℕ) (b : Bool) → q at ≡ b
     → numbers_of q at (suc n) ≡ (if b then at ∷ numbers_of q (at + 1) n else numbers_of q (at + 1) n)
 listed-so q n at b e = ap (λ (c : Bool). if c then at ∷ numbers_of q (at + 1) n else numbers_of q (at + 1) n) e
 
-ascending-are : (q : ℕ → Bool) (n at : ℕ) (numbers : List ℕ) → IsAscending at numbers
+pub ascending-are : (q : ℕ → Bool) (n at : ℕ) (numbers : List ℕ) → IsAscending at numbers
     → ((k : ℕ) → at ≤ k → has numbers k ≡ q k) → ((k : ℕ) → at + n ≤ k → q k ≡ false)
     → numbers ≡ numbers_of q at n
 ascending-are q zero at [] h m f = refl

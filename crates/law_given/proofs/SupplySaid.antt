@@ -65,7 +65,7 @@ marks-so bitmap first k (suc n) at le lt = elim (cases_lt k at) [
 zero-bit : (d : ℕ) → (0 / d % 2 == 1) ≡ false
 zero-bit d = grind (arith, nat_tests)
 
-bits-end : (bitmap : List ℕ) (k : ℕ) → 8 * length bitmap ≤ k → bit_of bitmap k ≡ false
+pub bits-end : (bitmap : List ℕ) (k : ℕ) → 8 * length bitmap ≤ k → bit_of bitmap k ≡ false
 bits-end bitmap k le =
     let past : slice_index bitmap (k / 8) ≡ 0 = get_or_past bitmap (k / 8) 0 (omega (arith, le)) in
     ap (λ (n : ℕ). n / 2 ^ (7 - k % 8) % 2 == 1) past ∙ zero-bit (2 ^ (7 - k % 8))
@@ -127,10 +127,10 @@ by-bits bits base next (inr e) a b =
     (by-ahead base next 16384 (ahead (Am 15) base (next % 32768)) (omega arith) (omega arith))
 
 pub said_is_read : SaidIsRead
-said_is_read bits x fms bitmap said k same h low high = record {
+said_is_read bits x fms bitmap said k same h w = record {
   read = ap (λ (kind : PdcpKind). fms_count kind x.base fms) same
       ∙ ap (fms_count (Am bits) x.base) h.fms_is
-      ∙ by-bits bits x.base said.next k low high;
+      ∙ by-bits bits x.base said.next k w.from w.to;
   marked = λ count le lt.
       ap (λ (marks : List ℕ). has_count marks count) (sym h.marks_are)
       ∙ marks-tell bitmap said.next count le;

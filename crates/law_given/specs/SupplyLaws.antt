@@ -2,7 +2,8 @@
 -- of the events that it tells, in their order (docs/laws/ACCOUNT.md; TS 36.323 5.1.1, 5.2.1.1, 5.3,
 -- 5.4, TS 36.322 5.1.3.1.1).
 use Rattle.std.specs.Prelude.{◌≡◌, ℕ, ◌+◌, ◌-◌, ◌^◌, ◌==◌, ◌≤◌, ◌<◌, Bool, true, false, not, ◌&&◌}
-use Rattle.std.specs.Prelude.{List, [], ◌∷◌, ◌++◌, map, Option, is_some, Ok, Err}
+use Rattle.std.specs.Prelude.{nat_lt, length, take, drop, List, [], ◌∷◌, ◌++◌, map, Option, is_some}
+use Rattle.std.specs.Prelude.{Ok, Err}
 use Rattle.std.specs.List.{list_any}
 use Rattle.bearer_types.specs.declared.BearerConfig.{BearerConfig}
 use Rattle.bearer_types.specs.declared.Event.{Event}
@@ -14,7 +15,8 @@ use Rattle.eps_sec.specs.declared.Keys.{Keys}
 use Rattle.pdcp_pdu.specs.declared.PdcpKind.TheVariants.{Am as AmKind}
 use Rattle.pdcp_pdu.specs.Kinds.{IsKind}
 use Rattle.pdcp_rx.specs.Heard.{Heard, Bad, Told, Data, heard}
-use Rattle.pdcp_rx.specs.State.{report}
+use Rattle.pdcp_rx.specs.Held.{is_held, Ends}
+use Rattle.pdcp_rx.specs.State.{State as Receiving, report}
 use Rattle.pdcp_tx.specs.State.{State as Sending, reported}
 use Rattle.rlc_pdu.specs.declared.fault.RlcRefusal.{RlcRefusal}
 use Rattle.rlc_pdu.specs.Pdus.{AmdPdu, StatusPdu, Payload, Status}
@@ -30,7 +32,7 @@ use Rattle.journal_lives.specs.FlowLives.{FlowLives}
 use Rattle.journal_takes.specs.TakeEvents.{SduSubmitted, SduDiscarded, ReportHeard}
 use Rattle.journal_given.specs.Supplies.{Supply, History, histories, begun, told, takes_pdu}
 use Rattle.journal_given.specs.Supplies.{takes_report, confirms, is_sequenced_by, report_gone}
-use Rattle.journal_given.specs.Supplies.{life_ended}
+use Rattle.journal_given.specs.Supplies.{life_ended, has_come, hears}
 use Rattle.journal_given.specs.RightTakes.{TakeIsRight, IsSaid, ReportIsRight, DiscardIsRight}
 use Rattle.law_bearer.specs.AnyBearer.Acknowledged.{offers_in}
 use Rattle.law_bearer.specs.AnyBearer.Calls.{Call, Submit, Take, Arrive, Expire, Tick, SetDiscard}
@@ -107,6 +109,11 @@ CallsAreGathered = (rlc : Progress) (b d : State) (c : Call) (s : Supply History
     → IsKind (AmKind s.bits) → IsOfData s.bits b → after (Am b) c ≡ Am d
     → IsSupplied rlc b.pdcp.tx s → IsGathered rlc b d c s
 
+-- what is counted as given is what RLC was offered
+abbrev pub GivenAreOffered : Type 0
+GivenAreOffered = (rlc : Progress) (sender : Sending) (s : Supply History)
+    → IsSupplied rlc sender s → s.given ≡ length rlc.offered
+
 -- RLC may take more where something is takeable by what is gathered
 abbrev pub MoreIsTakeable : Type 0
 MoreIsTakeable = (rlc : Progress) (b : State) (s : Supply History) → IsSupplied rlc b.pdcp.tx s
@@ -157,11 +164,46 @@ DataIsGathered = (rlc : Progress) (b d : State) (pdu : List ℕ) (data' : AmdPdu
     → IsSupplied rlc d.pdcp.tx (hears_all reports s)
 
 -- a report that says which COUNTs have come is so read, where its FMS lies in the sender's window
+pub record IsInWindow (bits : ℕ) (sender : Sending) (come : CountsCome) : Type 0 where
+  pub from : sender.base ≤ come.next
+  pub to : come.next ≤ sender.base + 2 ^ (bits - 1)
+
 abbrev pub SaidIsRead : Type 0
 SaidIsRead = (bits : ℕ) (sender : Sending) (fms : ℕ) (bitmap : List ℕ) (said : CountsCome)
     → IsKind (AmKind bits) → sender.kind ≡ AmKind bits → IsSaid fms bitmap bits said
-    → sender.base ≤ said.next → said.next ≤ sender.base + 2 ^ (bits - 1)
-    → IsReport sender said.next said.beyond fms bitmap
+    → IsInWindow bits sender said → IsReport sender said.next said.beyond fms bitmap
+
+-- RLC hands up PDUs that it was given at the other end, behind those that went up before, and by
+-- the flow the first of them all is then in sequence, or there is none
+pub record HandsUp (rlc : Progress) (own : Option FlowLives) (pdus : List (List ℕ)) : Type 0 where
+  pub gone : ℕ
+  pub are : pdus ≡ take (length pdus) (drop gone rlc.offered)
+  pub came : rlc.came ≡ nat_lt 0 gone
+  pub comes : is_sequenced_by own 0 ≡ nat_lt 0 (gone + length pdus)
+
+-- so the sender at this end hears what a checker finds heard of the report of the other
+abbrev pub DataIsHeard : Type 0
+DataIsHeard = (far near : Progress) (sender : Sending) (b d : State) (pdu : List ℕ)
+    (data' : AmdPdu) (own : Option FlowLives) (s t : Supply History)
+    → am_at pdu ≡ Ok (Payload data') → IsKind (AmKind t.bits) → s.bits ≡ t.bits
+    → IsOfData t.bits b → IsIdle b → after (Am b) (Arrive pdu) ≡ Am d
+    → HandsUp far own (arrived b.rx data').out.ready
+    → (has_come own s.report ≡ true → IsInWindow t.bits b.pdcp.tx s.said)
+    → IsSupplied far sender s → IsSupplied near b.pdcp.tx t
+    → IsSupplied near d.pdcp.tx (hears histories own s t)
+
+-- a receiver holds the COUNTs that have come, the next being the first that hasn't
+pub record HoldsCome (receiver : Receiving) (come : CountsCome) : Type 0 where
+  pub next : receiver.next ≡ come.next
+  pub ascend : IsAscending (come.next + 1) come.beyond
+  pub held : (k : ℕ) → 1 ≤ k → is_held receiver.held k
+      ≡ list_any (λ (own : ℕ). own == come.next + k) come.beyond
+  pub ends : Ends receiver.held
+
+abbrev pub ReportsSayWhatCame : Type 0
+ReportsSayWhatCame = (bits : ℕ) (receiver : Receiving) (come : CountsCome)
+    → IsKind (AmKind bits) → receiver.kind ≡ AmKind bits → HoldsCome receiver come
+    → IsReadAs bits (report receiver) come
 
 -- a status report that RLC was given is the first of what it was given: as that one has come the
 -- report isn't waited for any more

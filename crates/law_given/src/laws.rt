@@ -19,6 +19,9 @@ ghost use Rattle.law_given.specs.SupplyLaws.{DataIsGathered, SaidIsRead, Reports
 ghost use Rattle.law_given.specs.SupplyLaws.{ArrivalsTellNothing, EndsTellNothing, RefusedStay};
 ghost use Rattle.law_given.specs.SupplyLaws.{SuppliesBegin, LivesAreGathered};
 ghost use Rattle.law_given.specs.Joined.{BearersAreJoined, ReportsAreRead};
+ghost use Rattle.law_given.specs.SupplyLaws.{CallsAreGathered, GivenAreOffered, MoreIsTakeable};
+ghost use Rattle.law_given.specs.SupplyLaws.{StatusesAreGathered, DataIsGathered, DataIsHeard};
+ghost use Rattle.law_given.specs.SupplyLaws.{ReportsSayWhatCame, SaidIsRead, ReportsCome};
 
 /// What a record leaves of the bearer of a channel follows from the record, that bearer, and the
 /// accounts of its flows behind the record.
@@ -195,4 +198,15 @@ pub fn bearers_are_joined()
 /// that had. What has a COUNT is read as data.
 pub fn reports_are_read()
     ensures { ReportsAreRead }
+{}
+
+/// And where RLC hands up what it was given at the other end, in its order, what a checker finds
+/// heard is the status report of that end, once.
+pub fn data_is_heard()
+    ensures { DataIsHeard }
+{}
+
+/// The status report of a receiver says which COUNTs have come, where it holds just these.
+pub fn reports_say_what_came()
+    ensures { ReportsSayWhatCame }
 {}
