@@ -25,14 +25,11 @@ use Rattle.journal_given.specs.Supplies.{Supply, History, histories, told, confi
 use Rattle.law_bearer.specs.AnyBearer.Calls.{Arrive, after}
 use Rattle.law_takes.specs.Histories.{Confirms, confirming, IsTold}
 use Rattle.law_takes.proofs.Deeds.{deeds_are_told}
+use Rattle.law_given.specs.Confirming.{those_from}
 use Rattle.law_given.specs.Supplied.{Progress, unconfirmed_from, ArePdus, IsOwed, run_of, IsSupplied}
 use Rattle.law_given.specs.SupplyLaws.{ConfirmsAnew, StatusesAreGathered}
 
 -- ---- ascending numbers are those of a test
-
-abbrev pub numbers_of : (ℕ → Bool) → ℕ → ℕ → List ℕ
-numbers_of q at zero = []
-numbers_of q at (suc n) = if q at then at ∷ numbers_of q (at + 1) n else numbers_of q (at + 1) n
 
 abbrev pub has : List ℕ → ℕ → Bool
 has numbers number = list_any (λ (own : ℕ). own == number) numbers
@@ -44,12 +41,12 @@ has-none (x ∷ xs) low number h lt =
     ∙ has-none xs (x + 1) number h.1 (omega (arith, h.0, lt))
 
 listed-so : (q : ℕ → Bool) (n at : ℕ) (b : Bool) → q at ≡ b
-    → numbers_of q at (suc n) ≡ (if b then at ∷ numbers_of q (at + 1) n else numbers_of q (at + 1) n)
-listed-so q n at b e = ap (λ (c : Bool). if c then at ∷ numbers_of q (at + 1) n else numbers_of q (at + 1) n) e
+    → those_from q at (suc n) ≡ (if b then at ∷ those_from q (at + 1) n else those_from q (at + 1) n)
+listed-so q n at b e = ap (λ (c : Bool). if c then at ∷ those_from q (at + 1) n else those_from q (at + 1) n) e
 
 pub ascending-are : (q : ℕ → Bool) (n at : ℕ) (numbers : List ℕ) → IsAscending at numbers
     → ((k : ℕ) → at ≤ k → has numbers k ≡ q k) → ((k : ℕ) → at + n ≤ k → q k ≡ false)
-    → numbers ≡ numbers_of q at n
+    → numbers ≡ those_from q at n
 ascending-are q zero at [] h m f = refl
 ascending-are q zero at (x ∷ xs) h m f =
     let yes : has (x ∷ xs) x ≡ true = ap (λ (b : Bool). b || has xs x) (eq-eqb x x refl) in
@@ -79,36 +76,36 @@ ascending-are q (suc n) at (x ∷ xs) h m f = elim (cases_eq x at) [
 ]
 
 -- and those of a test ascend
-pub numbers-ascend : (q : ℕ → Bool) (n low at : ℕ) → low ≤ at → IsAscending low (numbers_of q at n)
+pub numbers-ascend : (q : ℕ → Bool) (n low at : ℕ) → low ≤ at → IsAscending low (those_from q at n)
 numbers-ascend q zero low at le = tt
 numbers-ascend q (suc n) low at le =
     by (q at) (numbers-ascend q n low (at + 1) (omega (arith, le))) (numbers-ascend q n (at + 1) (at + 1) (omega arith))
   where
-    by : (b : Bool) → IsAscending low (numbers_of q (at + 1) n) → IsAscending (at + 1) (numbers_of q (at + 1) n)
-        → IsAscending low (if b then at ∷ numbers_of q (at + 1) n else numbers_of q (at + 1) n)
+    by : (b : Bool) → IsAscending low (those_from q (at + 1) n) → IsAscending (at + 1) (those_from q (at + 1) n)
+        → IsAscending low (if b then at ∷ those_from q (at + 1) n else those_from q (at + 1) n)
     by true h k = (le, k)
     by false h k = h
 
 pub numbers-are : (q : ℕ → Bool) (n at number : ℕ) → at ≤ number → (at + n ≤ number → q number ≡ false)
-    → has (numbers_of q at n) number ≡ q number
+    → has (those_from q at n) number ≡ q number
 numbers-are q zero at number le f = sym (f (omega (arith, le)))
 numbers-are q (suc n) at number le f = elim (cases_eq at number) [
-  | inl e ↦ here (q at) refl e (has-none (numbers_of q (at + 1) n) (at + 1) number
+  | inl e ↦ here (q at) refl e (has-none (those_from q (at + 1) n) (at + 1) number
       (numbers-ascend q n (at + 1) (at + 1) (omega arith)) (omega (arith, e)))
   | inr ne ↦
       later (q at) ne (numbers-are q n (at + 1) number (omega (arith, ne, le)) (λ above. f (omega (arith, above))))
 ]
   where
-    here : (b : Bool) → q at ≡ b → at ≡ number → has (numbers_of q (at + 1) n) number ≡ false
-        → has (if b then at ∷ numbers_of q (at + 1) n else numbers_of q (at + 1) n) number ≡ q number
+    here : (b : Bool) → q at ≡ b → at ≡ number → has (those_from q (at + 1) n) number ≡ false
+        → has (if b then at ∷ those_from q (at + 1) n else those_from q (at + 1) n) number ≡ q number
     here true is e none =
-        ap (λ (b : Bool). b || has (numbers_of q (at + 1) n) number) (eq-eqb at number e) ∙ sym (sym (ap q e) ∙ is)
+        ap (λ (b : Bool). b || has (those_from q (at + 1) n) number) (eq-eqb at number e) ∙ sym (sym (ap q e) ∙ is)
     here false is e none = none ∙ sym (sym (ap q e) ∙ is)
 
-    later : (b : Bool) → at ≢ number → has (numbers_of q (at + 1) n) number ≡ q number
-        → has (if b then at ∷ numbers_of q (at + 1) n else numbers_of q (at + 1) n) number ≡ q number
+    later : (b : Bool) → at ≢ number → has (those_from q (at + 1) n) number ≡ q number
+        → has (if b then at ∷ those_from q (at + 1) n else those_from q (at + 1) n) number ≡ q number
     later true ne ih =
-        ap (λ (b : Bool). b || has (numbers_of q (at + 1) n) number) (ne_eqb at number ne) ∙ ih
+        ap (λ (b : Bool). b || has (those_from q (at + 1) n) number) (ne_eqb at number ne) ∙ ih
     later false ne ih = ih
 
 -- ---- PDCP learns of each number
@@ -170,7 +167,7 @@ all-told : (counts : List (Option ℕ)) (before behind : ℕ → Bool) (at : ℕ
     (s : Supply History) → ((k : ℕ) → before k ≡ true → behind k ≡ true)
     → ((k : ℕ) (count : Option ℕ) → slice_get counts k ≡ Some count → slice_get given (at + k) ≡ Some count)
     → IsTold s.takes.first s.takes.bits (run_of x given s.takes)
-    → Confirmed (all_confirmed (numbers_of (newly before behind) at (length counts)) x) given s
+    → Confirmed (all_confirmed (those_from (newly before behind) at (length counts)) x) given s
     (confirms_all histories behind (unconfirmed_from before at counts) s) (unconfirmed_from behind at counts)
 all-told [] before behind at x given s stay g h = record {
   told = h;
@@ -190,12 +187,12 @@ all-told (c ∷ counts) before behind at x given s stay g h =
   where
     by : (a b : Bool) → before at ≡ a → behind at ≡ b
         → ((y : Sending) (v : Supply History) → IsTold v.takes.first v.takes.bits (run_of y given v.takes)
-        → Confirmed (all_confirmed (numbers_of (newly before behind) (at + 1) (length counts)) y) given v
+        → Confirmed (all_confirmed (those_from (newly before behind) (at + 1) (length counts)) y) given v
         (confirms_all histories behind (unconfirmed_from before (at + 1) counts) v)
         (unconfirmed_from behind (at + 1) counts))
         → Confirmed
-        (all_confirmed (if b && not a then at ∷ numbers_of (newly before behind) (at + 1) (length counts)
-        else numbers_of (newly before behind) (at + 1) (length counts)) x) given s
+        (all_confirmed (if b && not a then at ∷ those_from (newly before behind) (at + 1) (length counts)
+        else those_from (newly before behind) (at + 1) (length counts)) x) given s
         (confirms_all histories behind (if a then unconfirmed_from before (at + 1) counts
         else record { number = at; count = c } ∷ unconfirmed_from before (at + 1) counts) s)
         (if b then unconfirmed_from behind (at + 1) counts
@@ -209,7 +206,7 @@ all-told (c ∷ counts) before behind at x given s stay g h =
         ap (slice_get given) same ∙ g zero c refl in
         let r = rest (confirmed x at) v (one-told x given s at c here h) in
         subst (λ (t : Bool). Confirmed
-        (all_confirmed (numbers_of (newly before behind) (at + 1) (length counts)) (confirmed x at)) given s
+        (all_confirmed (those_from (newly before behind) (at + 1) (length counts)) (confirmed x at)) given s
         (confirms_all histories behind (unconfirmed_from before (at + 1) counts)
         (if t then told histories (confirmation c) s
         else record s { unconfirmed = s.unconfirmed ++ record { number = at; count = c } ∷ [] }))
@@ -227,7 +224,7 @@ all-told (c ∷ counts) before behind at x given s stay g h =
         let v : Supply History = record s { unconfirmed = s.unconfirmed ++ record { number = at; count = c } ∷ [] } in
         let r = rest x v h in
         subst (λ (t : Bool). Confirmed
-        (all_confirmed (numbers_of (newly before behind) (at + 1) (length counts)) x) given s
+        (all_confirmed (those_from (newly before behind) (at + 1) (length counts)) x) given s
         (confirms_all histories behind (unconfirmed_from before (at + 1) counts)
         (if t then told histories (confirmation c) s
         else record s { unconfirmed = s.unconfirmed ++ record { number = at; count = c } ∷ [] }))
@@ -252,7 +249,7 @@ confirmed-beside : (rlc : Progress) (behind : ℕ → Bool) (x : Sending) (s : S
 confirmed-beside rlc behind x s numbers a h =
     let before = rlc.is_confirmed in
     let after' : Progress = record rlc { is_confirmed = behind } in
-    let all : numbers ≡ numbers_of (newly before behind) 0 (length h.given) =
+    let all : numbers ≡ those_from (newly before behind) 0 (length h.given) =
     ascending-are (newly before behind) (length h.given) 0 numbers a.ascend (λ k le. a.are_new k)
     (λ k le. ap (λ (b : Bool). b && not (before k)) (a.only_given k (omega (arith, le, h.many)))) in
     let empty : Supply History = record s { unconfirmed = [] } in
@@ -272,7 +269,7 @@ confirmed-beside rlc behind x s numbers a h =
       unconfirmed = r.unconfirmed;
       only_given = λ k le. a.only_given k (omega (arith, le, r.many));
       owed = subst (λ (o : Option (List ℕ)). IsOwed u.bits u.said h.given o)
-          (sym (all-owed (numbers_of (newly before behind) 0 (length h.given)) x))
+          (sym (all-owed (those_from (newly before behind) 0 (length h.given)) x))
           (subst (λ (n : ℕ). IsOwed n u.said h.given x.owed) (sym r.bits)
           (subst (λ (said : CountsCome). IsOwed s.bits said h.given x.owed) (sym r.said) h.owed));
       report = r.report ∙ h.report;

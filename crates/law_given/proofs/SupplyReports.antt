@@ -18,7 +18,8 @@ use Rattle.pdcp_rx.proofs.BitmapLemmas.{written, report_ends}
 use Rattle.journal_given.specs.Supplies.{marked_from}
 use Rattle.law_given.specs.SupplyLaws.{ReportsSayWhatCame}
 use Rattle.law_given.proofs.SupplySaid.{bits-end}
-use Rattle.law_given.proofs.SupplyConfirming.{numbers_of, has, ascending-are}
+use Rattle.law_given.specs.Confirming.{those_from}
+use Rattle.law_given.proofs.SupplyConfirming.{has, ascending-are}
 
 -- ---- its bits
 
@@ -42,7 +43,7 @@ bit-is held k =
 -- ---- the COUNTs that it marks
 
 marked-are : (bits : List ℕ) (first k n at : ℕ) → at ≡ first + k
-    → marked_from bits first k n ≡ numbers_of (λ count. bit_of bits (count - first)) at n
+    → marked_from bits first k n ≡ those_from (λ count. bit_of bits (count - first)) at n
 marked-are bits first k zero at e = refl
 marked-are bits first k (suc n) at e =
     by (bit_of bits k) (bit_of bits (at - first))
@@ -50,10 +51,10 @@ marked-are bits first k (suc n) at e =
     (marked-are bits first (k + 1) n (at + 1) (omega (arith, e)))
   where
     by : (b c : Bool) → b ≡ c
-        → marked_from bits first (k + 1) n ≡ numbers_of (λ count. bit_of bits (count - first)) (at + 1) n
+        → marked_from bits first (k + 1) n ≡ those_from (λ count. bit_of bits (count - first)) (at + 1) n
         → (if b then (first + k) ∷ marked_from bits first (k + 1) n else marked_from bits first (k + 1) n)
-        ≡ (if c then at ∷ numbers_of (λ count. bit_of bits (count - first)) (at + 1) n
-        else numbers_of (λ count. bit_of bits (count - first)) (at + 1) n)
+        ≡ (if c then at ∷ those_from (λ count. bit_of bits (count - first)) (at + 1) n
+        else those_from (λ count. bit_of bits (count - first)) (at + 1) n)
     by true true q ih =
         ap (λ (m : ℕ). m ∷ marked_from bits first (k + 1) n) (sym e) ∙ ap (λ (l : List ℕ). at ∷ l) ih
     by true false q ih = absurd cc

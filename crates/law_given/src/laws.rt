@@ -138,9 +138,11 @@ pub fn calls_are_gathered()
     ensures { CallsAreGathered }
 {}
 
-/// RLC may take more of PDCP just where something is takeable by what is gathered.
+/// What is counted as given is what RLC was offered, and it may take more of PDCP just where
+/// something is takeable by what is gathered.
 pub fn more_is_takeable()
-    ensures { MoreIsTakeable }
+    ensures given { GivenAreOffered }
+    ensures more { MoreIsTakeable }
 {}
 
 /// As a STATUS arrives, PDCP's sender learns just what a checker finds confirmed among what it
