@@ -1,5 +1,5 @@
 -- A sender confirms the SDUs that the history of its flow says are confirmed.
-use Rattle.std.proofs.Common.{◌≡◌, ◌<◌, ◌≤◌, inl, inr, ℕ, zero, suc, ◌+◌, ◌-◌, Bool, true, false, not, ◌&&◌, ◌==◌}
+use Rattle.std.proofs.Common.{◌≡◌, ◌<◌, ◌≤◌, inl, inr, ℕ, zero, suc, ◌+◌, Bool, true, false, not, ◌&&◌, ◌==◌}
 use Rattle.std.proofs.Common.{if◌then◌else◌, List, [], ◌∷◌, ◌++◌, length, Option, nat_lt, refl, ap, sym, subst, ◌∙◌}
 use Rattle.std.proofs.Common.{arith, append_assoc}
 use Rattle.std.proofs.lemmas.Bool.{cases_lt, cases_eq, and_parts, and_from, lt-ltb, le-ltb, ltb-true, eqb-true, eq-eqb}
@@ -7,7 +7,7 @@ use Rattle.std.proofs.lemmas.Bool.{ne_eqb}
 use Rattle.std.proofs.lemmas.List.{append_cancel_left}
 use Rattle.rlc_pdu.specs.Pdus.{StatusPdu}
 use Rattle.rlc_am_tx_window.specs.Numbers.{Ascend}
-use Rattle.rlc_am_tx.specs.Machine.{State, start}
+use Rattle.rlc_am_tx.specs.Machine.{State}
 use Rattle.journal_account.specs.Acked.{is_acked}
 use Rattle.journal_account.specs.Arrived.{all_between}
 use Rattle.journal_account.specs.Confirmed.{place_acked, is_confirmed_sdu}

@@ -6,8 +6,6 @@ use Rattle.std.specs.List.{AllByRecursion}
 use Rattle.std.proofs.lemmas.Bool.{cases_lt, and_parts, and_from, lt-ltb, le-ltb, ltb-true}
 use Rattle.std.proofs.lemmas.List.{length-map}
 use Rattle.rlc_pdu.specs.Runs.{has}
-use Rattle.rlc_am_tx.specs.declared.turn.Turn.TheVariants as turns
-use Rattle.rlc_am_tx.specs.Machine.{start}
 use Rattle.journal_account.specs.Arrived.{octet_came, all_between}
 use Rattle.journal_account.specs.FlowAccount.{account_of}
 use Rattle.journal_account.specs.FlowArrivals.{field_at}
@@ -38,7 +36,7 @@ use Rattle.law_rlc.proofs.AmArrival.Telling.{TellsOf, lens_at}
 use Rattle.law_account.specs.FlowReceiving.{IsReceiverOf}
 use Rattle.law_given.specs.Confirming.{HandsUpAsTold, FlowsHandUpAsTold}
 use Rattle.law_given.proofs.ConfirmingSizes.{place_next}
-use Rattle.law_given.proofs.ConfirmingStream.{same_place, index_is, along_is, from_between, whole, sequence_is}
+use Rattle.law_given.proofs.ConfirmingStream.{same_place, index_is, along_is, from_between, sequence_is}
 
 -- ---- what the receiver has kept of a number is what has come of it
 

@@ -1,5 +1,5 @@
 -- What the deeds of an acknowledged data bearer are to its PDCP sender.
-use Rattle.std.proofs.Common.{◌≡◌, ℕ, ◌-◌, List, [], ◌∷◌, Option, Some, None, refl, ap, sym, ◌∙◌}
+use Rattle.std.proofs.Common.{◌≡◌, ℕ, List, [], ◌∷◌, Option, Some, None, refl, ap, sym, ◌∙◌}
 use Rattle.pdcp_rx.specs.Heard.{Heard, Bad, Told, Data, heard}
 use Rattle.pdcp_tx.specs.Runs.{Call as PdcpCall, Submit, Take, Confirm, Report, Owe, Tick, Late}
 use Rattle.pdcp_tx.specs.State.{State as Sending, fms_count, submitted, took, confirmed, reported, reported_from}

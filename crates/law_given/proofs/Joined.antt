@@ -1,20 +1,17 @@
 -- What the steps of two ends over the air make of both directions of a bearer of acknowledged data.
-use Rattle.std.proofs.Common.{◌≡◌, ◌<◌, ◌≤◌, ℕ, true, false, List, [], ◌++◌, map, length, ap, sym, subst, ◌∙◌, arith}
-use Rattle.std.specs.List.{AllByRecursion}
-use Rattle.bearer.specs.Acknowledged.State.{State}
+use Rattle.std.proofs.Common.{◌≡◌, ℕ, List, ap, sym, subst, ◌∙◌, arith}
 use Rattle.bearer.specs.declared.flow.Flow.TheVariants.{Am}
 use Rattle.bearer_types.specs.Sides.{other}
 use Rattle.bearer_types.specs.declared.config.BearerConfig.{BearerConfig}
 use Rattle.eps_sec.specs.declared.Keys.{Keys}
 use Rattle.l2_node.specs.End.{End}
-use Rattle.l2_num.specs.Least.{IsLeast}
 use Rattle.l2_types.specs.declared.side.Side.{Side}
 use Rattle.l2_types.specs.declared.side.Side.TheVariants.{Nb, Ue}
 use Rattle.pdcp_sec.specs.Protection.{Protection}
 use Rattle.law_bearer.specs.AmBearer.Calls.{IsIdle}
 use Rattle.law_bearer.specs.AmBearer.Lives.{protection_at}
 use Rattle.law_bearer.specs.AnyBearer.Calls.{Step as BearerStep, run_bearer, reached as bearer_reached}
-use Rattle.law_words.specs.Arrivals.{AccountEntry, Account, no_account, account, has_place, has_come}
+use Rattle.law_words.specs.Arrivals.{AccountEntry, Account, no_account, account}
 use Rattle.law_node.specs.Holding.{flow}
 use Rattle.law_deliver.specs.AmFlow.Air.{outset}
 use Rattle.law_deliver.specs.AmFlow.Pair.{BearerEnd, Pair, DataComes, StatusComes}
@@ -28,7 +25,7 @@ use Rattle.law_deliver.proofs.AmDelivery.Arrived.{handed_come, place_is, passed_
 use Rattle.law_deliver.proofs.AmDelivery.Beginning.{first_way}
 use Rattle.law_deliver.proofs.AmDelivery.Coming.{comes_go_on}
 use Rattle.law_deliver.proofs.AmDelivery.Delivering.{AllGoOn, from_the_first, begins_account}
-use Rattle.law_deliver.proofs.AmDelivery.Joined.{Way, IsWay, JoinedPair, pdcp as way_pdcp}
+use Rattle.law_deliver.proofs.AmDelivery.Joined.{Way, IsWay, pdcp as way_pdcp}
 use Rattle.law_deliver.proofs.AmDelivery.Joined.{Joins as WayJoins, Reports as WaysReport}
 use Rattle.law_deliver.proofs.AmDelivery.Promises.{GoesOn, StepsGoOn}
 use Rattle.law_deliver.proofs.AmDelivery.Reached.{ends_are_reached}

@@ -24,7 +24,7 @@ use Rattle.pdcp_tx_store.specs.Waiting.{Waits}
 use Rattle.pdcp_tx_store.specs.declared.given.Sent.{Sent}
 use Rattle.law_pdcp.specs.AmPair.Between.{TellsWhatHasCome}
 use Rattle.law_pdcp.specs.AmPair.Expected.{IsExpected}
-use Rattle.law_pdcp.specs.AmPair.Flow.{Flow, Event, Sends, SetDiscard, Arrive, HandUp, Raise, Restart, IsGiven}
+use Rattle.law_pdcp.specs.AmPair.Flow.{Flow, Event, Sends, SetDiscard, Arrive, HandUp, Raise, Restart}
 use Rattle.law_pdcp.specs.AmPair.Flow.{AreGiven}
 use Rattle.law_pdcp.specs.AmPair.Flow.{happens, run_am_pdcp, am_pdcp_outset, passes, ended}
 use Rattle.law_pdcp.specs.OneEnd.Given.{nexts_of}

@@ -5,3 +5,4 @@ pub mod Deeds
 pub mod Supplied
 pub mod SupplyLaws
 pub mod Joined
+pub mod Saying

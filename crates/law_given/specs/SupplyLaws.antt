@@ -15,8 +15,7 @@ use Rattle.eps_sec.specs.declared.Keys.{Keys}
 use Rattle.pdcp_pdu.specs.declared.PdcpKind.TheVariants.{Am as AmKind}
 use Rattle.pdcp_pdu.specs.Kinds.{IsKind}
 use Rattle.pdcp_rx.specs.Heard.{Heard, Bad, Told, Data, heard}
-use Rattle.pdcp_rx.specs.Held.{is_held, Ends}
-use Rattle.pdcp_rx.specs.State.{State as Receiving, report}
+use Rattle.pdcp_rx.specs.State.{report}
 use Rattle.pdcp_tx.specs.State.{State as Sending, reported}
 use Rattle.rlc_pdu.specs.declared.fault.RlcRefusal.{RlcRefusal}
 use Rattle.rlc_pdu.specs.Pdus.{AmdPdu, StatusPdu, Payload, Status}
@@ -191,19 +190,6 @@ DataIsHeard = (far near : Progress) (sender : Sending) (b d : State) (pdu : List
     → (has_come own s.report ≡ true → IsInWindow t.bits b.pdcp.tx s.said)
     → IsSupplied far sender s → IsSupplied near b.pdcp.tx t
     → IsSupplied near d.pdcp.tx (hears histories own s t)
-
--- a receiver holds the COUNTs that have come, the next being the first that hasn't
-pub record HoldsCome (receiver : Receiving) (come : CountsCome) : Type 0 where
-  pub next : receiver.next ≡ come.next
-  pub ascend : IsAscending (come.next + 1) come.beyond
-  pub held : (k : ℕ) → 1 ≤ k → is_held receiver.held k
-      ≡ list_any (λ (own : ℕ). own == come.next + k) come.beyond
-  pub ends : Ends receiver.held
-
-abbrev pub ReportsSayWhatCame : Type 0
-ReportsSayWhatCame = (bits : ℕ) (receiver : Receiving) (come : CountsCome)
-    → IsKind (AmKind bits) → receiver.kind ≡ AmKind bits → HoldsCome receiver come
-    → IsReadAs bits (report receiver) come
 
 -- a status report that RLC was given is the first of what it was given: as that one has come the
 -- report isn't waited for any more

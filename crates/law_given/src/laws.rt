@@ -21,7 +21,11 @@ ghost use Rattle.law_given.specs.SupplyLaws.{SuppliesBegin, LivesAreGathered};
 ghost use Rattle.law_given.specs.Joined.{BearersAreJoined, ReportsAreRead};
 ghost use Rattle.law_given.specs.SupplyLaws.{CallsAreGathered, GivenAreOffered, MoreIsTakeable};
 ghost use Rattle.law_given.specs.SupplyLaws.{StatusesAreGathered, DataIsGathered, DataIsHeard};
-ghost use Rattle.law_given.specs.SupplyLaws.{ReportsSayWhatCame, SaidIsRead, ReportsCome};
+ghost use Rattle.law_given.specs.SupplyLaws.{SaidIsRead, ReportsCome};
+ghost use Rattle.law_given.specs.Saying.{ReportsSayWhatHasCome, EndsSayWhatHasCome};
+ghost use Rattle.law_given.specs.Saying.{LivesSayWhatHasCome, CountsComeAsHanded, LivesBeginBeside};
+ghost use Rattle.law_given.specs.Saying.{WithinBeside, GivenBeside, EndedBeside, BegunAlike};
+ghost use Rattle.law_given.specs.Saying.{DirectionsSayAlike};
 
 /// What a record leaves of the bearer of a channel follows from the record, that bearer, and the
 /// accounts of its flows behind the record.
@@ -208,7 +212,23 @@ pub fn data_is_heard()
     ensures { DataIsHeard }
 {}
 
-/// The status report of a receiver says which COUNTs have come, where it holds just these.
-pub fn reports_say_what_came()
-    ensures { ReportsSayWhatCame }
+/// The status report of a receiver says which COUNTs have come: its FMS is the first that hasn't,
+/// and its bitmap marks those beyond it that have, up to the greatest. So does the report that is
+/// made as a life of a direction ends, of what came in sequence or whole, and by its history.
+pub fn reports_say_what_has_come()
+    ensures reports { ReportsSayWhatHasCome }
+    ensures ends { EndsSayWhatHasCome }
+    ensures lives { LivesSayWhatHasCome }
+{}
+
+/// By a history beside PDCP's flow the same COUNTs have come as that flow was handed. It stays so
+/// from the first life on: as RLC is given a PDU, whatever else happens in a life, and as it ends.
+pub fn counts_come_as_handed()
+    ensures directions { DirectionsSayAlike }
+    ensures same { CountsComeAsHanded }
+    ensures begins { LivesBeginBeside }
+    ensures within { WithinBeside }
+    ensures given { GivenBeside }
+    ensures ended { EndedBeside }
+    ensures begun { BegunAlike }
 {}
