@@ -19,7 +19,7 @@ use Rattle.journal_flows.specs.NumberedPdus.{Told, Acked, Unacked}
 use Rattle.journal_flows.specs.Gathering.{Journal, MayTake, behind_record, behind_records, behind_line, behind_end}
 use Rattle.journal_flows.specs.FlowsTold.{Histories, is_at, histories, with_told}
 use Rattle.journal_flows.proofs.Gathered.{Agree, record_alike}
-use Rattle.law_sound.specs.AgreeLaws.{EventAnswersAlike, AnswersAlike, AnswerAlike, AgreeOn, JournalsAgreeOnAChannel}
+use Rattle.law_sound.specs.AgreeLaws.{AnswersAlike, AnswerAlike, AgreeOn, JournalsAgreeOnAChannel}
 use Rattle.law_sound.specs.AlikeLaws.{AreAlikeFlows}
 use Rattle.law_sound.specs.BesideLaws.{ReadRecord, behind_all}
 use Rattle.law_sound.specs.LoggedRecords.{records_of}

@@ -220,7 +220,8 @@ module _ (kinds : List (Option Layout)) (kind : PdcpKind) (l : ℕ)
         (ap (λ (rs : List Record). got ∷ rs) (records_read flag told)) (log ∙ sym (log_at_side side a x))
         (OfComing side k block flag Got heard ys refl refl refl at (sent_last_is k block at is') of)
         (λ now count. got_truly air ys (plain_all kinds kind l side ys own) refl count)
-        (λ own'. names_behind own' heard told said logs (ends_send_as_they_build s.end (Receive block.octets) refl)) (tt, own_answers told own)
+        (λ own'. names_behind own' heard told said logs (ends_send_as_they_build s.end (Receive block.octets) refl))
+        (tt, own_answers told own)
       where
         -- behind it not more are told of than were ignored as it came
         got_truly : (air : ReadRecord) (ys : List ReadRecord) → AllByRecursion (λ (x : ReadRecord). IsPlain x.one) ys

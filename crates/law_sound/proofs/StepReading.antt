@@ -73,7 +73,8 @@ module _ (kinds : List (Option Layout)) (kind : PdcpKind) (l : ℕ)
       let p = silent_read kinds kind l a a m sent j silent r none in
       let i = behind_all kinds p.all.reads j in
       both_read kinds kind l a j a (happens a s) m (next l a m s r.lived) silent told p.all
-      (subst (λ (h : AreLived l a m.pdus m.down m.up). Reads a kinds kind l i (happens a s) (next l a m s h) told) p.same
+      (subst (λ (h : AreLived l a m.pdus m.down m.up). Reads a kinds kind l i (happens a s)
+      (next l a m s h) told) p.same
       (more i p.all.read
       (λ side. processes_known kinds p.all.reads side j sent (flight_is side)
       ∙ ap (λ (zs : List Record). process_of side (flight_in zs sent)) p.all.are)))
@@ -178,7 +179,8 @@ module _ (kinds : List (Option Layout)) (kind : PdcpKind) (l : ℕ)
   side_read side (Comes k) told others done has right logs = by (slice_get (station_of (other side) a).blocks k) refl
     where
       by : (o : Option Block) → slice_get (station_of (other side) a).blocks k ≡ o
-          → Reads a kinds kind l j (happens a (at_side side (Comes k))) (next l a m (at_side side (Comes k)) r.lived) told
+          → Reads a kinds kind l j (happens a (at_side side (Comes k)))
+          (next l a m (at_side side (Comes k)) r.lived) told
       by None q =
           rest_read kinds kind l known a m sent j r side (Comes k) told tt (λ bs. let no = bs.is in absurd cc)
           (none_comes l side k a m.pdus m.down m.up r.lived q) (ap brought q)

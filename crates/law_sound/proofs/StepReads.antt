@@ -1,5 +1,5 @@
--- Records of a step take what is gathered to the moment behind it, and tell truly of STATUS PDUs; so do records that log
--- nothing.
+-- Records of a step take what is gathered to the moment behind it, and tell truly of STATUS PDUs; so do records that
+-- log nothing.
 use Rattle.std.proofs.Common.{◌≡◌, ℕ, ◌+◌, ◌%◌, Bool, true, false, List, [], ◌∷◌, ◌++◌}
 use Rattle.std.proofs.Common.{Option}
 use Rattle.std.proofs.Common.{refl, ap, sym, subst, ◌∙◌, arith}
@@ -69,7 +69,8 @@ Counts kinds l j rs = (side : Side)
     → ignored_so_far side l (behind_all kinds rs j)
     ≡ ignored_so_far side l j + ignored_told side l (records_of rs)
 
-pub record Reads (before : Air) (kinds : List (Option Layout)) (kind : PdcpKind) (l : ℕ) (j : Journal Histories) (b : Air) (n : Moment)
+pub record Reads (before : Air) (kinds : List (Option Layout)) (kind : PdcpKind) (l : ℕ) (j : Journal Histories)
+    (b : Air) (n : Moment)
     (told : List Record) : Type 0 where
   pub reads : List ReadRecord
   pub are : records_of reads ≡ told
@@ -123,7 +124,8 @@ module _ (kinds : List (Option Layout)) (kind : PdcpKind) (l : ℕ) where
       (other_records_leave kinds x.more l a m.pdus m.down m.up x.one j (leaves_by l x.one nb.0 ue.0) g)
 
   -- at the same moment
-  pub record ReadsStill (before a : Air) (m : Moment) (j : Journal Histories) (r : IsRead kind l a m j) (told : List Record)
+  pub record ReadsStill (before a : Air) (m : Moment) (j : Journal Histories) (r : IsRead kind l a m j)
+      (told : List Record)
       : Type 0 where
     pub all : Reads before kinds kind l j a m told
     pub same : all.read.lived ≡ r.lived
