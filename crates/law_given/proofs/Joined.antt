@@ -125,15 +125,18 @@ module _ (l : ℕ) (c : BearerConfig) (keys : Keys) (nb ue : End) (h : AmEndsBeg
       ap (bearer_reached c keys Ue) (sym (does_is l c keys nb ue h Ue xs g))
       ∙ (ends_are_reached c keys (first_of c keys Nb) (first_of c keys Ue) steps (both_ends l c keys nb ue h)).ue_is
 
+  pub reaches : (side : Side)
+      → flow l (end_at side (lives xs (outset nb ue)))
+      ≡ run_bearer (does side) (flow l (end_at side (outset nb ue)))
+  reaches side =
+      let e = end_at side (outset nb ue) in
+      ap (flow l) (ends_go_by_calls nb ue side xs)
+      ∙ (all_go side l e (all_calls side xs (outset nb ue)) (stands_so side l c keys e (begun l c keys nb ue h side))
+      (are_calls l side xs (outset nb ue) g)).bearer_is
+
   last_is : (side : Side) → flow l (end_at side (lives xs (outset nb ue))) ≡ Am (own side last).bearer
   last_is side =
-      let e = end_at side (outset nb ue) in
-      let b = begun l c keys nb ue h side in
-      ap (flow l) (ends_go_by_calls nb ue side xs)
-      ∙ (all_go side l e (all_calls side xs (outset nb ue)) (stands_so side l c keys e b)
-      (are_calls l side xs (outset nb ue) g)).bearer_is
-      ∙ ap (run_bearer (does side)) b.bearer_is
-      ∙ pair_reaches side
+      reaches side ∙ ap (run_bearer (does side)) (begun l c keys nb ue h side).bearer_is ∙ pair_reaches side
 
   told_as : (from : Side) (d : Direction) (hs : List AccountEntry) (news ups : List (List ℕ))
       → account hs no_account ≡ told_from c l from xs (outset nb ue) → news ≡ taken_at l from xs (outset nb ue)

@@ -1,7 +1,7 @@
 -- What PDCP gives in one direction is read as what it is: a status report tells what had come of the other one as the
 -- life began.
-use Rattle.std.proofs.Common.{◌≡◌, ◌≤◌, ℕ, zero, suc, ◌-◌, ◌%◌, ◌^◌, Bool, true, false, ◌||◌, List, [], ◌∷◌, ◌++◌}
-use Rattle.std.proofs.Common.{map, length, take}
+use Rattle.std.proofs.Common.{◌≡◌, ◌≤◌, ℕ, zero, suc, ◌-◌, ◌%◌, ◌^◌, Bool, true, false, ◌||◌, List, [], ◌∷◌, ◌++◌, map}
+use Rattle.std.proofs.Common.{length, take}
 use Rattle.std.proofs.Common.{drop, Option, Some, None, slice_get, append-nil, refl, ap, sym, subst, ◌∙◌, arith}
 use Rattle.std.specs.List.{AllByRecursion}
 use Rattle.bearer_types.specs.declared.config.BearerConfig.{BearerConfig}
@@ -27,7 +27,7 @@ use Rattle.law_pdcp.specs.AmPair.Expected.{IsExpected}
 use Rattle.law_pdcp.specs.AmPair.Flow.{Flow, Event, Sends, SetDiscard, Arrive, HandUp, Raise, Restart}
 use Rattle.law_pdcp.specs.AmPair.Flow.{AreGiven}
 use Rattle.law_pdcp.specs.AmPair.Flow.{happens, run_am_pdcp, am_pdcp_outset, passes, ended}
-use Rattle.law_pdcp.specs.OneEnd.Given.{nexts_of}
+use Rattle.law_pdcp.specs.OneEnd.Given.{nexts_of, pdus_given}
 use Rattle.law_pdcp.proofs.AmPair.Laws.{expected, run_sound, outset_sound}
 use Rattle.law_pdcp.proofs.AmPair.Sound.{IsSound, AreWritten, IsWritten}
 use Rattle.law_pdcp.proofs.AmPair.Telling.{begins_telling}
@@ -38,6 +38,7 @@ use Rattle.law_deliver.proofs.AmDelivery.Accounts.{Agrees, given_of, tells_passi
 use Rattle.law_deliver.proofs.AmDelivery.Ways.{run_more, given_events_more}
 use Rattle.law_deliver.specs.AmChannel.Lives.{AirStep}
 use Rattle.law_given.specs.Joined.{Direction, IsDirection, IsReportOf, pdcp, is_among, TellsBegun, IsHeardAsData}
+use Rattle.law_given.specs.Joined.{AreGiven as AreGivenBoth, AreGivenIn, IsGivenAs}
 use Rattle.law_given.specs.Joined.{IsHeardAs, AreHeardIn, AreHeard, AreJoined}
 
 -- ---- calls of a sender leave its kind, and the first COUNT that wasn't confirmed as the life began
@@ -104,23 +105,25 @@ up_come f begun (Some n) q h =
     (tells_handed f (passes (Some n) f) n nothing_told q refl refl (λ count. refl) (account_of f begun)
     (agrees f begun h)).handed_are
 
+none_given : (f : Flow) (c : Call) (begun : ℕ → Bool) → pdus_given f.sender c ≡ [] → f.passed ≤ length f.stream
+    → HasCome f begun → HasCome (happens f (Sends c)) begun
+none_given f c begun q few h =
+    given_come f (happens f (Sends c)) begun None few (ap (λ (ns : List Next). f.stream ++ ns) q) refl (λ count. refl) h
+
 call_come : (f : Flow) (begun : ℕ → Bool) (c : Call) → f.passed ≤ length f.stream → HasCome f begun
     → HasCome (happens f (Sends c)) begun
-call_come f begun (Submit sdu) few h = given_come f (happens f (Sends (Submit sdu))) begun None few refl refl
-    (λ count. refl) h
-call_come f begun Take few h = given_come f (happens f (Sends Take)) begun (taking f.sender) few refl refl
-    (λ count. refl) h
-call_come f begun (Confirm k) few h = given_come f (happens f (Sends (Confirm k))) begun None few refl refl
-    (λ count. refl) h
-call_come f begun (Report m b) few h = given_come f (happens f (Sends (Report m b))) begun None few refl refl
-    (λ count. refl) h
-call_come f begun (Owe r) few h = given_come f (happens f (Sends (Owe r))) begun None few refl refl (λ count. refl) h
-call_come f begun Tick few h = given_come f (happens f (Sends Tick)) begun None few refl refl (λ count. refl) h
-call_come f begun Late few h = given_come f (happens f (Sends Late)) begun None few refl refl (λ count. refl) h
+call_come f begun (Submit sdu) few h = none_given f (Submit sdu) begun refl few h
+call_come f begun Take few h =
+    given_come f (happens f (Sends Take)) begun (taking f.sender) few refl refl (λ count. refl) h
+call_come f begun (Confirm place) few h = none_given f (Confirm place) begun refl few h
+call_come f begun (Report fms bitmap) few h = none_given f (Report fms bitmap) begun refl few h
+call_come f begun (Owe report) few h = none_given f (Owe report) begun refl few h
+call_come f begun Tick few h = none_given f Tick begun refl few h
+call_come f begun Late few h = none_given f Late begun refl few h
 
 -- ---- the report of the life
 
-abbrev HasTold : Flow → Type 0
+abbrev pub HasTold : Flow → Type 0
 HasTold f = (report : List ℕ) → f.report ≡ Some report → TellsBegun f report
 
 -- so it goes on
@@ -132,18 +135,21 @@ record Keeps (f g : Flow) : Type 0 where
 
 told_on : (f g : Flow) → Keeps f g → HasTold f → HasTold g
 told_on f g k h report q =
-    let t = h report (sym k.report ∙ q) in
+    let all = h report (sym k.report ∙ q) in
+    let t = all.tells_begun in
     record {
-      fms = t.fms;
-      bitmap = t.bitmap;
-      from = t.from;
-      begun = t.begun;
-      is = subst (λ (x : PdcpKind). heard x report ≡ Told t.fms t.bitmap) (sym k.sender.kind) t.is;
-      read = subst (λ (x : PdcpKind). fms_count x g.sender.base t.fms ≡ Some t.from) (sym k.sender.kind)
-          (subst (λ (n : ℕ). fms_count f.sender.kind n t.fms ≡ Some t.from) (sym k.sender.base) t.read);
-      expected = subst (λ (n : ℕ). IsLeast t.begun n t.from) (sym k.first) t.expected;
-      told = λ count le. t.told count (omega (arith, le, k.first));
-      come = k.come t.begun t.come;
+      begun = all.begun;
+      tells_begun = record {
+        fms = t.fms;
+        bitmap = t.bitmap;
+        from = t.from;
+        is = subst (λ (x : PdcpKind). heard x report ≡ Told t.fms t.bitmap) (sym k.sender.kind) t.is;
+        read = subst (λ (x : PdcpKind). fms_count x g.sender.base t.fms ≡ Some t.from) (sym k.sender.kind)
+            (subst (λ (n : ℕ). fms_count f.sender.kind n t.fms ≡ Some t.from) (sym k.sender.base) t.read);
+        expected = subst (λ (n : ℕ). IsLeast all.begun n t.from) (sym k.first) t.expected;
+        told = λ count le. t.told count (omega (arith, le, k.first));
+      };
+      come = k.come all.begun all.come;
     }
 
 alike : (s : State) → IsAlike s s
@@ -181,14 +187,16 @@ module _ (bits : ℕ) (p : Protection) (first : ℕ) (kind : IsKind (AmKind bits
       let e : IsExpected b = subst IsExpected more (expected bits p first (es ++ Restart keys ∷ []) kind le given) in
       let same : report_of (ended f).receiver ≡ report = cc in
       record {
-        fms = t.fms;
-        bitmap = t.bitmap;
-        from = b.receiver.next;
         begun = b.handed;
-        is = subst (λ (r : List ℕ). heard b.sender.kind r ≡ Told t.fms t.bitmap) same t.comes;
-        read = t.read;
-        expected = e.least;
-        told = t.told;
+        tells_begun = record {
+          fms = t.fms;
+          bitmap = t.bitmap;
+          from = b.receiver.next;
+          is = subst (λ (r : List ℕ). heard b.sender.kind r ≡ Told t.fms t.bitmap) same t.comes;
+          read = t.read;
+          expected = e.least;
+          told = t.told;
+        };
         come = λ count. or_none (b.handed count);
       }
 
@@ -342,20 +350,26 @@ module _ (bits : ℕ) (p : Protection) (first : ℕ) (kind : IsKind (AmKind bits
 -- ---- both directions
 
 -- what the PDUs of a direction are, and its report
-record IsReadIn (bits : ℕ) (f : Flow) : Type 0 where
-  kind : f.sender.kind ≡ AmKind bits
-  told : HasTold f
-  plain : AllByRecursion (λ (n : Next). (count : ℕ) → n.count ≡ Some count → IsHeardAsData (AmKind bits) n.octets)
+pub record IsReadIn (bits : ℕ) (f : Flow) : Type 0 where
+  pub kind : f.sender.kind ≡ AmKind bits
+  pub few : f.passed ≤ length f.stream
+  pub told : HasTold f
+  pub plain : AllByRecursion (λ (n : Next). (count : ℕ) → n.count ≡ Some count → IsHeardAsData (AmKind bits) n.octets)
       f.stream
 
-read_in : (c : BearerConfig) (d : Direction) → IsDirection c d → IsReadIn c.pdcp_bits (pdcp d)
+pub read_in : (c : BearerConfig) (d : Direction) → IsDirection c d → IsReadIn c.pdcp_bits (pdcp d)
 read_in c d h =
     let r = reads d.bits d.protection d.first h.kind h.counts d.events h.events in
+    let ok = sound_at d.bits d.protection d.first h.kind h.counts d.events h.events in
     subst (λ (bits : ℕ). IsReadIn bits (pdcp d)) h.bits (record {
-      kind = (sound_at d.bits d.protection d.first h.kind h.counts d.events h.events).sends.am;
+      kind = ok.sends.am;
+      few = ok.few;
       told = r.told;
       plain = r.plain;
     })
+
+pub first_in : (c : BearerConfig) (d : Direction) → IsDirection c d → (pdcp d).first ≡ c.first
+first_in c d h = (reads d.bits d.protection d.first h.kind h.counts d.events h.events).first_is ∙ h.first
 
 one_heard : (bits : ℕ) (f : Flow) (octets : List ℕ) (o : Option ℕ) → f.sender.kind ≡ AmKind bits → HasTold f
     → (o ≡ None → f.report ≡ Some octets)
@@ -386,3 +400,25 @@ reports_are_read l c nb ue from steps j =
           all_heard c.pdcp_bits (pdcp j.there) (pdcp j.back).stream there.kind there.told j.there_reports.sent
           back.plain;
     }
+
+-- ---- what it is
+
+given_as : (f : Flow) (octets : List ℕ) (o : Option ℕ)
+    → IsWritten f.first f.sdus f.sender.kind f.sender.protection o octets → IsGivenAs f octets o
+given_as f octets None w = tt
+given_as f octets (Some count) w = record { sdu = w.sdu; named = w.named; is = w.is }
+
+all_given : (f : Flow) (ns : List Next) → AreWritten f.first f.sdus f.sender.kind f.sender.protection ns
+    → AllByRecursion (λ (n : Next). IsGivenAs f n.octets n.count) ns
+all_given f [] w = tt
+all_given f (n ∷ ns) w = (given_as f n.octets n.count w.0, all_given f ns w.1)
+
+given_in : (c : BearerConfig) (d : Direction) → IsDirection c d → AreGivenIn (pdcp d)
+given_in c d h =
+    let ok = sound_at d.bits d.protection d.first h.kind h.counts d.events h.events in
+    all_given (pdcp d) (drop (pdcp d).passed (pdcp d).stream) ok.links.written
+
+pub pdus_are_given : (l : ℕ) (c : BearerConfig) (nb ue : End) (from : Side) (steps : List AirStep)
+    (j : AreJoined l c nb ue from steps) → AreGivenBoth (pdcp j.there) (pdcp j.back)
+pdus_are_given l c nb ue from steps j =
+    record { going = given_in c j.there j.there_is; coming = given_in c j.back j.back_is }

@@ -25,3 +25,5 @@ pub mod JoinedReports
 pub mod SupplyHearing
 pub mod SayingReports
 pub mod SayingCounts
+pub mod JoinedSteps
+pub mod JoinedLasting

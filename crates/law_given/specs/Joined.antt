@@ -1,7 +1,9 @@
 -- Both directions of a bearer of acknowledged data as two ends go on over the air: PDCP's flow
 -- through all lives, RLC's of the life that runs, and how they belong to the bearers (TS 36.322
 -- 5.1.3, 5.4, TS 36.323 5.1, 5.2, 5.3).
-use Rattle.std.specs.Prelude.{◌≡◌, ℕ, ◌≤◌, ◌^◌, Bool, false, ◌||◌, List, [], ◌∷◌, map, length, take}
+use Rattle.std.specs.Prelude.{◌≡◌, ℕ, ◌≤◌, ◌^◌, Bool, true, false, ◌||◌, List, [], ◌∷◌, ◌++◌, map}
+use Rattle.std.specs.Prelude.{length}
+use Rattle.std.specs.Prelude.{take, drop}
 use Rattle.std.specs.Prelude.{Option, Some, None}
 use Rattle.std.specs.List.{AllByRecursion}
 use Rattle.bearer.specs.Acknowledged.State.{State}
@@ -20,22 +22,29 @@ use Rattle.pdcp_pdu.specs.declared.PdcpKind.TheVariants.{Am as AmKind}
 use Rattle.pdcp_sec.specs.Protection.{Protection}
 use Rattle.pdcp_tx.specs.declared.sender.Next.{Next}
 use Rattle.pdcp_rx.specs.Heard.{Told, Data, heard}
+use Rattle.pdcp_rx.specs.State.{report}
+use Rattle.pdcp_tx.specs.Pdus.{pdu}
 use Rattle.pdcp_tx.specs.State.{fms_count}
 use Rattle.pdcp_tx_store.specs.Given.{tells}
 use Rattle.law_bearer.specs.AmBearer.Calls.{IsOfData, IsIdle}
+use Rattle.law_bearer.specs.AmBearer.Lives.{restarts, closed}
+use Rattle.law_bearer.specs.AnyBearer.Calls.{run_bearer}
 use Rattle.law_rlc.specs.AmPair.Arrives.{arrives}
 use Rattle.law_rlc.specs.AmPair.Flow.{Flow as Rlc, Step as RlcStep, goes as rlc_goes, am_rlc_outset}
 use Rattle.law_rlc.specs.AmPair.Flow.{sender, receiver}
 use Rattle.law_rlc.specs.AmPair.Given.{AreGiven as AreGivenSteps}
 use Rattle.law_rlc.specs.AmPair.Sdus.{offered, handed_up}
+use Rattle.law_pdcp.specs.OneEnd.Lives.{Names}
 use Rattle.law_pdcp.specs.AmPair.Flow.{Flow as Pdcp, Event, run_am_pdcp, am_pdcp_outset}
 use Rattle.law_pdcp.specs.AmPair.Flow.{AreGiven as AreGivenEvents}
-use Rattle.law_words.specs.Arrivals.{Given, Account, has_place, has_come, is_count}
+use Rattle.law_words.specs.Arrivals.{AccountEntry, Gives, Passes, Renews, Given, Account, account}
+use Rattle.law_words.specs.Arrivals.{has_place, has_come, is_count}
 use Rattle.law_node.specs.Holding.{flow}
-use Rattle.law_deliver.specs.AmFlow.Air.{outset}
-use Rattle.law_deliver.specs.AmChannel.Arrival.{told_from}
-use Rattle.law_deliver.specs.AmChannel.Delivery.{AmEndsBeginAlike, taken_at, ups_at}
-use Rattle.law_deliver.specs.AmChannel.Lives.{AirStep, AreLiving, lives, end_at}
+use Rattle.law_deliver.specs.AmFlow.Air.{Step, outset}
+use Rattle.law_deliver.specs.AmChannel.Arrival.{told_from, happens_in}
+use Rattle.law_deliver.specs.AmChannel.Delivery.{AmEndsBeginAlike, steps_over, taken_at, ups_at}
+use Rattle.law_deliver.specs.AmChannel.Lives.{AirStep, InLife, Moves, AreLiving, lives, end_at}
+use Rattle.law_deliver.specs.AmChannel.Lives.{calls_at}
 
 -- ---- a direction
 
@@ -135,17 +144,21 @@ abbrev pub is_among : List Next → ℕ → Bool
 is_among [] count = false
 is_among (n ∷ ns) count = is_count n.count count || is_among ns count
 
--- a status report is read, tells what had come of a flow as its life began, and its FMS is the
--- first COUNT that hadn't; since then RLC has handed up what else has come (TS 36.323 5.3)
-pub record TellsBegun (f : Pdcp) (report : List ℕ) : Type 0 where
+-- octets are read as a status report of the COUNTs that had come of a flow: its FMS is the first
+-- that hadn't (TS 36.323 5.3.1, 5.3.2)
+pub record TellsCome (f : Pdcp) (had_come : ℕ → Bool) (report : List ℕ) : Type 0 where
   pub fms : ℕ
   pub bitmap : List ℕ
   pub from : ℕ
-  pub begun : ℕ → Bool
   pub is : heard f.sender.kind report ≡ Told fms bitmap
   pub read : fms_count f.sender.kind f.sender.base fms ≡ Some from
-  pub expected : IsLeast begun f.first from
-  pub told : (count : ℕ) → f.first ≤ count → tells from bitmap count ≡ begun count
+  pub expected : IsLeast had_come f.first from
+  pub told : (count : ℕ) → f.first ≤ count → tells from bitmap count ≡ had_come count
+
+-- of those that had as the life began; since then RLC has handed up what else has come
+pub record TellsBegun (f : Pdcp) (report : List ℕ) : Type 0 where
+  pub begun : ℕ → Bool
+  pub tells_begun : TellsCome f begun report
   pub come : (count : ℕ) → f.handed count ≡ (begun count || is_among (take f.passed f.stream) count)
 
 pub record IsHeardAsData (kind : PdcpKind) (octets : List ℕ) : Type 0 where
@@ -169,3 +182,98 @@ abbrev pub ReportsAreRead : Type 0
 ReportsAreRead =
     (l : ℕ) (c : BearerConfig) (nb ue : End) (from : Side) (steps : List AirStep)
     (j : AreJoined l c nb ue from steps) → AreHeard (pdcp j.there) (pdcp j.back)
+
+-- the PDU of the SDU of a COUNT, as the sender protects it
+pub record IsPduOf (f : Pdcp) (count : ℕ) (octets : List ℕ) : Type 0 where
+  pub sdu : List ℕ
+  pub named : Names f.first f.sdus count sdu
+  pub is : octets ≡ pdu f.sender.kind f.sender.protection count sdu
+
+abbrev pub IsGivenAs : Pdcp → List ℕ → Option ℕ → Type 0
+IsGivenAs f octets None = Unit {0}
+IsGivenAs f octets (Some count) = IsPduOf f count octets
+
+-- those that RLC hasn't handed up
+abbrev pub AreGivenIn : Pdcp → Type 0
+AreGivenIn f =
+    AllByRecursion (λ (n : Next). IsGivenAs f n.octets n.count) (drop f.passed f.stream)
+
+pub record AreGiven (there back : Pdcp) : Type 0 where
+  pub going : AreGivenIn there
+  pub coming : AreGivenIn back
+
+abbrev pub PdusAreGiven : Type 0
+PdusAreGiven =
+    (l : ℕ) (c : BearerConfig) (nb ue : End) (from : Side) (steps : List AirStep)
+    (j : AreJoined l c nb ue from steps) → AreGiven (pdcp j.there) (pdcp j.back)
+
+-- ---- a step further
+
+-- by what the step tells, and by what the calls of a side do to its bearer
+pub record GoesOn (l : ℕ) (c : BearerConfig) (nb ue : End) (from : Side) (steps : List AirStep)
+    (x : AirStep) : Type 0 where
+  pub told_is : told_from c l from (steps ++ x ∷ []) (outset nb ue)
+      ≡ account (happens_in c.pdcp_bits l from (lives steps (outset nb ue)) x)
+      (told_from c l from steps (outset nb ue))
+  pub bearer_is : flow l (end_at from (lives (steps ++ x ∷ []) (outset nb ue)))
+      ≡ run_bearer (steps_over l (calls_at from (lives steps (outset nb ue)) x)
+      (end_at from (lives steps (outset nb ue))))
+      (flow l (end_at from (lives steps (outset nb ue))))
+
+abbrev pub JoinedGoOn : Type 0
+JoinedGoOn =
+    (l : ℕ) (c : BearerConfig) (keys : Keys) (nb ue : End) (from : Side) (steps : List AirStep)
+    (x : AirStep)
+    → AmEndsBeginAlike l c keys nb ue → AreLiving l (outset nb ue) (steps ++ x ∷ [])
+    → GoesOn l c nb ue from steps x
+
+-- ---- in a life
+
+abbrev pub gives : List AccountEntry → List Given
+gives [] = []
+gives (Gives g ∷ entries) = g ∷ gives entries
+gives (Passes p ∷ entries) = gives entries
+gives (Renews ∷ entries) = gives entries
+
+-- what RLC is given stands behind what it was given, and nothing that has come is lost
+pub record GoesOnInLife (f g : Pdcp) (entries : List AccountEntry) : Type 0 where
+  pub first_is : g.first ≡ f.first
+  pub stream_is : map given_of g.stream ≡ map given_of f.stream ++ gives entries
+  pub whole_stays : (place : ℕ) → f.whole place ≡ true → g.whole place ≡ true
+  pub passed_rises : f.passed ≤ g.passed
+  pub handed_stays : (count : ℕ) → f.handed count ≡ true → g.handed count ≡ true
+
+abbrev pub JoinedGoOnInLife : Type 0
+JoinedGoOnInLife =
+    (l : ℕ) (c : BearerConfig) (keys : Keys) (nb ue : End) (from : Side) (steps : List AirStep)
+    (s : Step)
+    → AmEndsBeginAlike l c keys nb ue → AreLiving l (outset nb ue) (steps ++ InLife s ∷ [])
+    → (j : AreJoined l c nb ue from steps)
+    (k : AreJoined l c nb ue from (steps ++ InLife s ∷ []))
+    → GoesOnInLife (pdcp j.there) (pdcp k.there)
+    (happens_in c.pdcp_bits l from (lives steps (outset nb ue)) (InLife s))
+
+-- ---- the next life
+
+-- nothing is under way, and the one end owes the other the report of what had come from it
+pub record LifeBegins (l : ℕ) (c : BearerConfig) (nb ue : End) (from : Side) (steps : List AirStep)
+    (keys : Keys) (j : AreJoined l c nb ue from steps)
+    (k : AreJoined l c nb ue from (steps ++ Moves keys ∷ [])) : Type 0 where
+  pub one_is : k.one ≡ restarts j.one keys
+  pub two_is : k.two ≡ restarts j.two keys
+  pub stream_is : (pdcp k.there).stream ≡ []
+  pub passed_is : (pdcp k.there).passed ≡ 0
+  pub report_is : (pdcp k.there).report ≡ Some (report (closed j.two))
+  pub owed_is : (pdcp k.back).sender.owed ≡ Some (report (closed j.two))
+  pub tells_ended : TellsCome (pdcp k.there)
+      (told_from c l from (steps ++ Moves keys ∷ []) (outset nb ue)).ended (report (closed j.two))
+
+abbrev pub LivesBeginJoined : Type 0
+LivesBeginJoined =
+    (l : ℕ) (c : BearerConfig) (first keys : Keys) (nb ue : End) (from : Side)
+    (steps : List AirStep)
+    → AmEndsBeginAlike l c first nb ue
+    → AreLiving l (outset nb ue) (steps ++ Moves keys ∷ [])
+    → (j : AreJoined l c nb ue from steps)
+    (k : AreJoined l c nb ue from (steps ++ Moves keys ∷ []))
+    → LifeBegins l c nb ue from steps keys j k

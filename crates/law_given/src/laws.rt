@@ -26,6 +26,8 @@ ghost use Rattle.law_given.specs.Saying.{ReportsSayWhatHasCome, EndsSayWhatHasCo
 ghost use Rattle.law_given.specs.Saying.{LivesSayWhatHasCome, CountsComeAsHanded, LivesBeginBeside};
 ghost use Rattle.law_given.specs.Saying.{WithinBeside, GivenBeside, EndedBeside, BegunAlike};
 ghost use Rattle.law_given.specs.Saying.{DirectionsSayAlike};
+ghost use Rattle.law_given.specs.Joined.{BearersAreJoined, ReportsAreRead, PdusAreGiven};
+ghost use Rattle.law_given.specs.Joined.{JoinedGoOn, JoinedGoOnInLife, LivesBeginJoined};
 
 /// What a record leaves of the bearer of a channel follows from the record, that bearer, and the
 /// accounts of its flows behind the record.
@@ -231,4 +233,28 @@ pub fn counts_come_as_handed()
     ensures given { GivenBeside }
     ensures ended { EndedBeside }
     ensures begun { BegunAlike }
+{}
+
+/// What RLC was given with a COUNT in the life that runs, and hasn't handed up, is the PDU of the
+/// SDU that was taken with the COUNT.
+pub fn pdus_are_given()
+    ensures { PdusAreGiven }
+{}
+
+/// A step further, each direction goes on by what the step tells, and the bearer of each side by
+/// the calls of the side in it.
+pub fn joined_go_on()
+    ensures { JoinedGoOn }
+{}
+
+/// As both ends move, nothing is under way, and each owes the other a status report, which is read
+/// as the report of the COUNTs that had come whole in the lives before.
+pub fn lives_begin_joined()
+    ensures { LivesBeginJoined }
+{}
+
+/// In a life RLC is given more behind what it was given, by what the step tells, and nothing that
+/// has come is lost.
+pub fn joined_go_on_in_life()
+    ensures { JoinedGoOnInLife }
 {}
