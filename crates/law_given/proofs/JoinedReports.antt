@@ -43,9 +43,9 @@ use Rattle.law_given.specs.Joined.{IsHeardAs, AreHeardIn, AreHeard, AreJoined}
 
 -- ---- calls of a sender leave its kind, and the first COUNT that wasn't confirmed as the life began
 
-record IsAlike (s t : State) : Type 0 where
-  kind : t.kind ≡ s.kind
-  base : t.base ≡ s.base
+pub record IsAlike (s t : State) : Type 0 where
+  pub kind : t.kind ≡ s.kind
+  pub base : t.base ≡ s.base
 
 new_alike : (s : State) (ws : List Waits) → IsAlike s (took_new ws s)
 new_alike s [] = record { kind = refl; base = refl }
@@ -63,7 +63,7 @@ report_alike : (s : State) (c : Option ℕ) (bitmap : List ℕ) → IsAlike s (r
 report_alike s None bitmap = record { kind = refl; base = refl }
 report_alike s (Some c) bitmap = record { kind = refl; base = refl }
 
-call_alike : (s : State) (c : Call) → IsAlike s (after s c)
+pub call_alike : (s : State) (c : Call) → IsAlike s (after s c)
 unfolding submitted took confirmed reported after_late
 call_alike s (Submit sdu) = record { kind = refl; base = refl }
 call_alike s Take = owed_alike s s.owed
@@ -164,7 +164,7 @@ up_keeps f (Some n) q = record {
   come = λ begun h. up_come f begun (Some n) q h;
 }
 
-or_none : (b : Bool) → b ≡ (b || false)
+pub or_none : (b : Bool) → b ≡ (b || false)
 or_none true = refl
 or_none false = refl
 

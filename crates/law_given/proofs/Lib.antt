@@ -27,3 +27,7 @@ pub mod SayingReports
 pub mod SayingCounts
 pub mod JoinedSteps
 pub mod JoinedLasting
+pub mod Landing
+pub mod LandingReports
+pub mod LandingTold
+pub mod LandingWindow

@@ -110,11 +110,11 @@ numbers-are q (suc n) at number le f = elim (cases_eq at number) [
 
 -- ---- PDCP learns of each number
 
-abbrev all_confirmed : List ℕ → Sending → Sending
+abbrev pub all_confirmed : List ℕ → Sending → Sending
 all_confirmed [] x = x
 all_confirmed (number ∷ numbers) x = all_confirmed numbers (confirmed x number)
 
-confirms-sender : (numbers : List ℕ) (e : Ends) → (confirms_places numbers e).tx ≡ all_confirmed numbers e.tx
+pub confirms-sender : (numbers : List ℕ) (e : Ends) → (confirms_places numbers e).tx ≡ all_confirmed numbers e.tx
 confirms-sender [] e = refl
 confirms-sender (number ∷ numbers) e = confirms-sender numbers (record e { tx = confirmed e.tx number })
 
@@ -243,7 +243,7 @@ all-told (c ∷ counts) before behind at x given s stay g h =
 
 -- ---- the whole
 
-confirmed-beside : (rlc : Progress) (behind : ℕ → Bool) (x : Sending) (s : Supply History) (numbers : List ℕ)
+pub confirmed-beside : (rlc : Progress) (behind : ℕ → Bool) (x : Sending) (s : Supply History) (numbers : List ℕ)
     → ConfirmsAnew rlc.is_confirmed behind s.given numbers → IsSupplied rlc x s
     → IsSupplied (record rlc { is_confirmed = behind }) (all_confirmed numbers x) (confirms histories behind s)
 confirmed-beside rlc behind x s numbers a h =
@@ -276,7 +276,7 @@ confirmed-beside rlc behind x s numbers a h =
       came = λ e. subst (λ (n : ℕ). 0 < n) (sym r.many) (h.came e);
     }))
 
-status-pdcp : (h : Heard) (w : Work) → (status_work h w).pdcp ≡ w.pdcp
+pub status-pdcp : (h : Heard) (w : Work) → (status_work h w).pdcp ≡ w.pdcp
 status-pdcp heard_as.Ignored w = refl
 status-pdcp (heard_as.Limit sn) w = refl
 status-pdcp (heard_as.Applied stopped) w = refl

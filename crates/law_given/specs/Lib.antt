@@ -6,3 +6,4 @@ pub mod Supplied
 pub mod SupplyLaws
 pub mod Joined
 pub mod Saying
+pub mod Landing

@@ -28,6 +28,9 @@ ghost use Rattle.law_given.specs.Saying.{WithinBeside, GivenBeside, EndedBeside,
 ghost use Rattle.law_given.specs.Saying.{DirectionsSayAlike};
 ghost use Rattle.law_given.specs.Joined.{BearersAreJoined, ReportsAreRead, PdusAreGiven};
 ghost use Rattle.law_given.specs.Joined.{JoinedGoOn, JoinedGoOnInLife, LivesBeginJoined};
+ghost use Rattle.law_given.specs.Landing.{BlocksAreLanded, NewsAreAsTold, BringsAsTold};
+ghost use Rattle.law_given.specs.Landing.{ReportsAreHeardSo, ReportsBeginInWindow, WindowsStay};
+ghost use Rattle.law_given.specs.Landing.{WindowsAreRead};
 
 /// What a record leaves of the bearer of a channel follows from the record, that bearer, and the
 /// accounts of its flows behind the record.
@@ -257,4 +260,23 @@ pub fn lives_begin_joined()
 /// has come is lost.
 pub fn joined_go_on_in_life()
     ensures { JoinedGoOnInLife }
+{}
+
+/// A block of one side comes to the other: its STATUS confirms what RLC was given, and the status
+/// report among what RLC hands up is heard, once; so what a checker gathers of both directions goes
+/// on beside both senders. What a block confirms and brings is so by the histories of its flows.
+pub fn blocks_are_landed()
+    ensures landed { BlocksAreLanded }
+    ensures news { NewsAreAsTold }
+    ensures brings { BringsAsTold }
+{}
+
+/// The status report that comes is read as what it says: as two directions belong to their bearers;
+/// and where what it says lies in the window, in which it is as the life begins and stays through
+/// the life.
+pub fn reports_are_heard_so()
+    ensures heard { ReportsAreHeardSo }
+    ensures begins { ReportsBeginInWindow }
+    ensures stays { WindowsStay }
+    ensures reads { WindowsAreRead }
 {}
