@@ -57,7 +57,7 @@ fms-within bits base fms from k e =
 
 pub windows_are_read : WindowsAreRead
 windows_are_read b sent kind k w fms bitmap is =
-    said_is_read sent.bits b.pdcp.tx fms bitmap sent.said kind k.sending is (record { from = w.low; to = w.high })
+    said_is_read sent.bits b.pdcp.tx fms bitmap sent.said kind k.sending is w
 
 -- what had come as the life began, by what is handed up now
 began-as : (f : Pdcp) (report : List ℕ) (t : TellsBegun f report) → f.passed ≡ 0 → (count : ℕ)
@@ -92,7 +92,7 @@ reports_begin_in_window c there back one two report said d a b r owed none least
     let w : IsWithin two.pdcp.tx.base c.pdcp_bits said.next =
     subst (λ (n : ℕ). IsWithin two.pdcp.tx.base c.pdcp_bits n) (sym same)
     (flow-within c.pdcp_bits f two.pdcp.tx report t kind x.kind b.sender_is) in
-    record { low = w.low; high = w.high }
+    record { from = w.low; to = w.high }
 
 -- ---- it is the first that RLC was given
 
@@ -149,4 +149,4 @@ reports_are_heard_so there back one two p sent number kind k a b h q s says e fm
     let w : IsWithin two.pdcp.tx.base sent.bits sent.said.next =
     subst (λ (n : ℕ). IsWithin two.pdcp.tx.base sent.bits n) (sym same)
     (flow-within sent.bits f two.pdcp.tx x.report t kind kind' sender) in
-    windows_are_read two sent kind k (record { low = w.low; high = w.high }) fms bitmap is
+    windows_are_read two sent kind k (record { from = w.low; to = w.high }) fms bitmap is

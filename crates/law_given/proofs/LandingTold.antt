@@ -1,9 +1,7 @@
 -- What a block confirms and brings is what the histories of its flows tell.
-use Rattle.std.proofs.Common.{◌≡◌, ℕ, zero, suc, ◌+◌, ◌==◌, ◌≤◌, Bool, false, ◌&&◌, if◌then◌else◌, List, [], ◌∷◌, ◌++◌}
-use Rattle.std.proofs.Common.{length, take, drop, refl, ap, sym, ◌∙◌, subst, arith, le-ltb, length-append}
+use Rattle.std.proofs.Common.{◌≡◌, ℕ, suc, ◌+◌, ◌≤◌, Bool, false, ◌&&◌, List, [], ◌∷◌, ◌++◌}
+use Rattle.std.proofs.Common.{length, take, drop, refl, ap, sym, ◌∙◌, arith, le-ltb, length-append}
 use Rattle.std.specs.Prelude.{not}
-use Rattle.std.specs.List.{list_any}
-use Rattle.l2_num.specs.Ascending.{IsAscending}
 use Rattle.journal_account.specs.Confirmed.{is_confirmed_sdu, place_acked}
 use Rattle.journal_account.specs.FlowEvents.{FlowEvent}
 use Rattle.journal_account.specs.Stream.{sdu_sizes, place_of, sdu_end}
@@ -11,7 +9,6 @@ use Rattle.journal_account.specs.Arrived.{all_between}
 use Rattle.law_rlc.specs.AmPair.Flow.{goes, am_rlc_outset}
 use Rattle.law_rlc.specs.AmPair.Sdus.{handed_up, ready}
 use Rattle.law_rlc.proofs.AmPair.Laws.{hands-up-the-front}
-use Rattle.law_given.specs.Confirming.{those_from}
 use Rattle.law_given.specs.Landing.{NewsAreAsTold, BringsAsTold}
 use Rattle.law_given.proofs.SupplyConfirming.{numbers-ascend, numbers-are}
 

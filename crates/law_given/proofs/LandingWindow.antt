@@ -46,6 +46,6 @@ windows_stay bits b d c said k idle e w =
     let base : d.pdcp.tx.base ≡ b.pdcp.tx.base =
     sym (ap (λ (y : State). y.pdcp.tx.base) same) ∙ all-base (deeds_of b c) b in
     record {
-      low = subst (λ (n : ℕ). n ≤ said.next) (sym base) w.low;
-      high = subst (λ (n : ℕ). said.next ≤ n + 2 ^ (bits - 1)) (sym base) w.high;
+      from = subst (λ (n : ℕ). n ≤ said.next) (sym base) w.from;
+      to = subst (λ (n : ℕ). said.next ≤ n + 2 ^ (bits - 1)) (sym base) w.to;
     }

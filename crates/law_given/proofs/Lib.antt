@@ -22,7 +22,6 @@ pub mod SupplyLives
 pub mod SupplyQuiet
 pub mod Joined
 pub mod JoinedReports
-pub mod SupplyHearing
 pub mod SayingReports
 pub mod SayingCounts
 pub mod JoinedSteps

@@ -1,7 +1,7 @@
 -- A block of one side comes to the other: what an acknowledged data bearer hears of it, beside what
 -- a checker gathers of both directions (docs/laws/ACCOUNT.md; TS 36.322 5.1.3.1.1, 5.1.3.2.3,
 -- 5.2.1, TS 36.323 5.3.2).
-use Rattle.std.specs.Prelude.{◌≡◌, ℕ, ◌+◌, ◌-◌, ◌^◌, ◌≤◌, Bool, true, false, nat_lt, List, []}
+use Rattle.std.specs.Prelude.{◌≡◌, ℕ, ◌≤◌, Bool, true, false, nat_lt, List, []}
 use Rattle.std.specs.Prelude.{◌∷◌, ◌++◌, length, take, drop, slice_get, Option, Some, None}
 use Rattle.std.specs.Prelude.{option_to_list, Result, Ok, Err}
 use Rattle.std.specs.List.{AllByRecursion}
@@ -39,7 +39,7 @@ use Rattle.law_given.specs.Confirming.{HandsUpAsTold, newly_confirmed}
 use Rattle.law_given.specs.Joined.{Direction, IsDirection, pdcp, rlc, Joins, Reports, TellsBegun}
 use Rattle.law_given.specs.Joined.{AreHeard}
 use Rattle.law_given.specs.Supplied.{Progress, IsSupplied}
-use Rattle.law_given.specs.SupplyLaws.{ConfirmsAnew}
+use Rattle.law_given.specs.SupplyLaws.{ConfirmsAnew, IsInWindow}
 
 -- ---- the PDUs of a channel in a block: STATUS PDUs, then at most one of data, any of which may be
 -- refused
@@ -157,25 +157,22 @@ ReportsAreHeardSo = (there back : Direction) (one two : State) (progress : Progr
 
 -- ---- or so: what it says lies in the window of the sender that it comes to, through the life
 
-pub record IsInWindow (bits : ℕ) (b : State) (said : CountsCome) : Type 0 where
-  pub low : b.pdcp.tx.base ≤ said.next
-  pub high : said.next ≤ b.pdcp.tx.base + 2 ^ (bits - 1)
-
 -- as a life begins in which a report is owed of what has come
 abbrev pub ReportsBeginInWindow : Type 0
 ReportsBeginInWindow = (c : BearerConfig) (there back : Direction) (one two : State)
     (report : List ℕ) (said : CountsCome) → IsDirection c back → Joins there one two
     → Joins back two one → Reports back there → one.pdcp.tx.owed ≡ Some report
     → (pdcp back).passed ≡ 0 → IsLeast (pdcp back).handed (pdcp back).first said.next
-    → IsInWindow c.pdcp_bits two said
+    → IsInWindow c.pdcp_bits two.pdcp.tx said
 
 abbrev pub WindowsStay : Type 0
 WindowsStay = (bits : ℕ) (b d : State) (c : Call) (said : CountsCome) → IsOfData bits b → IsIdle b
-    → after (Am b) c ≡ Am d → IsInWindow bits b said → IsInWindow bits d said
+    → after (Am b) c ≡ Am d → IsInWindow bits b.pdcp.tx said
+    → IsInWindow bits d.pdcp.tx said
 
 abbrev pub WindowsAreRead : Type 0
 WindowsAreRead = (b : State) (sent : Supply History) → IsKind (AmKind sent.bits)
-    → IsOfData sent.bits b → IsInWindow sent.bits b sent.said → ReadsWhatIsSaid b sent
+    → IsOfData sent.bits b → IsInWindow sent.bits b.pdcp.tx sent.said → ReadsWhatIsSaid b sent
 
 -- ---- a block does so by the histories of its flows
 

@@ -2,7 +2,7 @@
 -- of the events that it tells, in their order (docs/laws/ACCOUNT.md; TS 36.323 5.1.1, 5.2.1.1, 5.3,
 -- 5.4, TS 36.322 5.1.3.1.1).
 use Rattle.std.specs.Prelude.{◌≡◌, ℕ, ◌+◌, ◌-◌, ◌^◌, ◌==◌, ◌≤◌, ◌<◌, Bool, true, false, not, ◌&&◌}
-use Rattle.std.specs.Prelude.{nat_lt, length, take, drop, List, [], ◌∷◌, ◌++◌, map, Option, is_some}
+use Rattle.std.specs.Prelude.{length, List, [], ◌∷◌, ◌++◌, map, Option, is_some}
 use Rattle.std.specs.Prelude.{Ok, Err}
 use Rattle.std.specs.List.{list_any}
 use Rattle.bearer_types.specs.declared.BearerConfig.{BearerConfig}
@@ -31,7 +31,7 @@ use Rattle.journal_lives.specs.FlowLives.{FlowLives}
 use Rattle.journal_takes.specs.TakeEvents.{SduSubmitted, SduDiscarded, ReportHeard}
 use Rattle.journal_given.specs.Supplies.{Supply, History, histories, begun, told, takes_pdu}
 use Rattle.journal_given.specs.Supplies.{takes_report, confirms, is_sequenced_by, report_gone}
-use Rattle.journal_given.specs.Supplies.{life_ended, has_come, hears}
+use Rattle.journal_given.specs.Supplies.{life_ended}
 use Rattle.journal_given.specs.RightTakes.{TakeIsRight, IsSaid, ReportIsRight, DiscardIsRight}
 use Rattle.law_bearer.specs.AnyBearer.Acknowledged.{offers_in}
 use Rattle.law_bearer.specs.AnyBearer.Calls.{Call, Submit, Take, Arrive, Expire, Tick, SetDiscard}
@@ -171,25 +171,6 @@ abbrev pub SaidIsRead : Type 0
 SaidIsRead = (bits : ℕ) (sender : Sending) (fms : ℕ) (bitmap : List ℕ) (said : CountsCome)
     → IsKind (AmKind bits) → sender.kind ≡ AmKind bits → IsSaid fms bitmap bits said
     → IsInWindow bits sender said → IsReport sender said.next said.beyond fms bitmap
-
--- RLC hands up PDUs that it was given at the other end, behind those that went up before, and by
--- the flow the first of them all is then in sequence, or there is none
-pub record HandsUp (rlc : Progress) (own : Option FlowLives) (pdus : List (List ℕ)) : Type 0 where
-  pub gone : ℕ
-  pub are : pdus ≡ take (length pdus) (drop gone rlc.offered)
-  pub came : rlc.came ≡ nat_lt 0 gone
-  pub comes : is_sequenced_by own 0 ≡ nat_lt 0 (gone + length pdus)
-
--- so the sender at this end hears what a checker finds heard of the report of the other
-abbrev pub DataIsHeard : Type 0
-DataIsHeard = (far near : Progress) (sender : Sending) (b d : State) (pdu : List ℕ)
-    (data' : AmdPdu) (own : Option FlowLives) (s t : Supply History)
-    → am_at pdu ≡ Ok (Payload data') → IsKind (AmKind t.bits) → s.bits ≡ t.bits
-    → IsOfData t.bits b → IsIdle b → after (Am b) (Arrive pdu) ≡ Am d
-    → HandsUp far own (arrived b.rx data').out.ready
-    → (has_come own s.report ≡ true → IsInWindow t.bits b.pdcp.tx s.said)
-    → IsSupplied far sender s → IsSupplied near b.pdcp.tx t
-    → IsSupplied near d.pdcp.tx (hears histories own s t)
 
 -- a status report that RLC was given is the first of what it was given: as that one has come the
 -- report isn't waited for any more

@@ -20,7 +20,7 @@ ghost use Rattle.law_given.specs.SupplyLaws.{ArrivalsTellNothing, EndsTellNothin
 ghost use Rattle.law_given.specs.SupplyLaws.{SuppliesBegin, LivesAreGathered};
 ghost use Rattle.law_given.specs.Joined.{BearersAreJoined, ReportsAreRead};
 ghost use Rattle.law_given.specs.SupplyLaws.{CallsAreGathered, GivenAreOffered, MoreIsTakeable};
-ghost use Rattle.law_given.specs.SupplyLaws.{StatusesAreGathered, DataIsGathered, DataIsHeard};
+ghost use Rattle.law_given.specs.SupplyLaws.{StatusesAreGathered, DataIsGathered};
 ghost use Rattle.law_given.specs.SupplyLaws.{SaidIsRead, ReportsCome};
 ghost use Rattle.law_given.specs.Saying.{ReportsSayWhatHasCome, EndsSayWhatHasCome};
 ghost use Rattle.law_given.specs.Saying.{LivesSayWhatHasCome, CountsComeAsHanded, LivesBeginBeside};
@@ -209,12 +209,6 @@ pub fn bearers_are_joined()
 /// that had. What has a COUNT is read as data.
 pub fn reports_are_read()
     ensures { ReportsAreRead }
-{}
-
-/// And where RLC hands up what it was given at the other end, in its order, what a checker finds
-/// heard is the status report of that end, once.
-pub fn data_is_heard()
-    ensures { DataIsHeard }
 {}
 
 /// The status report of a receiver says which COUNTs have come: its FMS is the first that hasn't,

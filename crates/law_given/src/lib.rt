@@ -6,7 +6,7 @@ mod laws;
 
 pub use laws::{
     arrivals_tell_nothing, bearers_are_joined, bearers_stand, blocks_are_landed,
-    calls_are_gathered, confirms_as_told, counts_come_as_handed, data_is_gathered, data_is_heard,
+    calls_are_gathered, confirms_as_told, counts_come_as_handed, data_is_gathered,
     deeds_take_alike, flows_say_on_one_bearer, hands_up_as_told, joined_go_on,
     joined_go_on_in_life, landed_by_histories, lives_are_gathered, lives_begin_joined,
     may_take_by_one_bearer, may_take_by_records, more_is_takeable, one_bearer_by_histories,
