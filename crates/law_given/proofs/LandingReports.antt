@@ -145,7 +145,8 @@ reports_are_heard_so there back one two p sent number kind k a b h q s says e fm
     let t : TellsBegun f x.report =
     among-stream sent.bits f sent.said (pdcp there).stream p.offered kind' (a.stream_is ∙ sym q) h.going x in
     let same : sent.said.next ≡ t.tells_begun.from =
-    least-one t.begun f.first sent.said.next t.tells_begun.from (says x.report (ap (λ l. slice_get l 0) x.is) t) t.tells_begun.expected in
+    least-one t.begun f.first sent.said.next t.tells_begun.from
+    (says x.report (ap (λ l. slice_get l 0) x.is) t) t.tells_begun.expected in
     let w : IsWithin two.pdcp.tx.base sent.bits sent.said.next =
     subst (λ (n : ℕ). IsWithin two.pdcp.tx.base sent.bits n) (sym same)
     (flow-within sent.bits f two.pdcp.tx x.report t kind kind' sender) in
