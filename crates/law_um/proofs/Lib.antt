@@ -4,3 +4,8 @@ pub mod UmReceiving
 pub mod UmLossesTold
 pub mod UmSending
 pub mod UmWriting
+pub mod UmTimers
+pub mod UmLived
+pub mod UmLivedPlaces
+pub mod UmLivedLaws
+pub mod UmLivedOnAir

@@ -159,14 +159,14 @@ landed-wide (Some n) pieces f = by (is_dropped n f.window)
     by true = refl
     by false = refl
 
-flow-wide : (width many : ℕ) (es : List UmLifeEvent) → (flow_of width many es).window.width ≡ width
-flow-wide width many [] = refl
-flow-wide width many (InLife (PduArrived number pieces) ∷ es) =
+pub flow_wide : (width many : ℕ) (es : List UmLifeEvent) → (flow_of width many es).window.width ≡ width
+flow_wide width many [] = refl
+flow_wide width many (InLife (PduArrived number pieces) ∷ es) =
     let f = flow_of width many es in
-    landed-wide (read_in number f) pieces (flows.numbered number f) ∙ flow-wide width many es
-flow-wide width many (InLife ReorderStarted ∷ es) = flow-wide width many es
-flow-wide width many (InLife ReorderExpired ∷ es) = flow-wide width many es
-flow-wide width many (LifeEnded ∷ es) = flow-wide width many es
+    landed-wide (read_in number f) pieces (flows.numbered number f) ∙ flow_wide width many es
+flow_wide width many (InLife ReorderStarted ∷ es) = flow_wide width many es
+flow_wide width many (InLife ReorderExpired ∷ es) = flow_wide width many es
+flow_wide width many (LifeEnded ∷ es) = flow_wide width many es
 
 started-highest : (b : Bool) (es : List UmLifeEvent)
     → highest_in (running (started_in b es)) ≡ highest_in (running es)
@@ -206,7 +206,7 @@ numbers-alike width many number g es some time wide top long =
     ∙ far-alike f.far f.joiner.long (nat_le (g.top + g.width) number)
     (nat_le (top_of f.window + f.window.width) number)
     (λ short. ap (λ (n : ℕ). nat_le (n + g.width) number) (top ∙ sym (tops-alike width many es some time short))
-    ∙ ap (λ (n : ℕ). nat_le (top_of f.window + n) number) (wide ∙ sym (flow-wide width many es)))
+    ∙ ap (λ (n : ℕ). nat_le (top_of f.window + n) number) (wide ∙ sym (flow_wide width many es)))
 
 -- ---- a block arrives
 
@@ -245,7 +245,7 @@ arrived-losses width many f es s pieces some is time h =
     sym (ap (λ (l : List (List ℕ)). (all_counted l f.gaps).long) h.gone) ∙ h.receiver.ready.long_is in
     let before = ready-counted now.far far f.gaps g f.receiver now h.receiver h.gone refl refl
     (numbers-alike width many s.number f.gaps es some time h.width_is h.top long) in
-    let wide : width_of f.bits ≡ now.window.width = h.bits ∙ sym (flow-wide width many es) in
+    let wide : width_of f.bits ≡ now.window.width = h.bits ∙ sym (flow_wide width many es) in
     let behind = arrival_accounted EndsWithTag (Reckons far g) (tag-kind far g) f.receiver now pdu s.number pieces
     (is.sn ∙ ap (λ (n : ℕ). s.number % (2 * n)) wide) is.carries before in
     let same : flow_of width many (arrives_in f s pieces es)
@@ -327,7 +327,7 @@ lives_are_reckoned width many f es some h =
       gone = refl;
       receiver = outset_accounted EndsWithTag (Reckons now.far (restarted g)) (tag-kind now.far (restarted g))
           (width_of f.bits) 0 (ended now)
-          (ap empty_window (flow-wide width many es ∙ sym h.bits)) refl
+          (ap empty_window (flow_wide width many es ∙ sym h.bits)) refl
           (record {
             counts = (stays (all_joined f.receiver) f.gaps).counts ∙ all.counts;
             next_is = refl;

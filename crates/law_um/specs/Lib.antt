@@ -2,3 +2,5 @@ pub mod UmReceiving
 pub mod UmLossesTold
 pub mod UmSending
 pub mod UmWriting
+pub mod UmTimers
+pub mod UmLived

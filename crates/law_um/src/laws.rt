@@ -8,6 +8,11 @@ ghost use Rattle.law_um.specs.UmLossesTold.{LossesBegin, SendingLosesNone, Arriv
 ghost use Rattle.law_um.specs.UmLossesTold.{ExpiriesAreReckoned, LivesAreReckoned};
 ghost use Rattle.law_um.specs.UmSending.{UmSendersBegin, UmOffersAreTold, UmPdusAreTold};
 ghost use Rattle.law_um.specs.UmWriting.{WritingBegins, WritingIsReckoned, PdusKeepPieces};
+ghost use Rattle.law_um.specs.UmTimers.{UmBearersTellReordering, UmBearersBeginBeside};
+ghost use Rattle.law_um.specs.UmTimers.{UmBearersGoOnBeside, UmBearersLiveOnBeside};
+ghost use Rattle.law_um.specs.UmLived.{UmPairsBegin, UmPairsAreLived, UmPairsLiveOn};
+ghost use Rattle.law_um.specs.UmLived.{UmUpsAreJoined, UmUpsAreTrue, PdusComeInTime};
+ghost use Rattle.law_um.specs.UmLived.{UmChannelsAreLived};
 
 /// They begin alike.
 pub fn um_outset_is_accounted()
@@ -90,4 +95,67 @@ pub fn writing_is_reckoned()
 /// history has with the place of the first.
 pub fn pdus_keep_pieces()
     ensures { PdusKeepPieces }
+{}
+
+/// What an unacknowledged bearer tells of t-Reordering in a call is what its receiver does in it:
+/// an arrival may start it, an expiry may start it again, and nothing else is told of it.
+pub fn um_bearers_tell_reordering()
+    ensures { UmBearersTellReordering }
+{}
+
+/// As an unacknowledged bearer comes, its receiver is beside an empty history.
+pub fn um_bearers_begin_beside()
+    ensures { UmBearersBeginBeside }
+{}
+
+/// In each call it goes on by the PDU that comes, if one does, and by what the bearer tells of
+/// t-Reordering; what went up is what the history joins.
+pub fn um_bearers_go_on_beside()
+    ensures { UmBearersGoOnBeside }
+{}
+
+/// So it does as a life ends, with what goes up then, and the next one begins.
+pub fn um_bearers_live_on_beside()
+    ensures { UmBearersLiveOnBeside }
+{}
+
+/// As a life of a pair of unacknowledged bearers begins, both ends are beside an empty history of
+/// each direction.
+pub fn um_pairs_begin()
+    ensures { UmPairsBegin }
+{}
+
+/// In any steps, with whatever HARQ loses, repeats and turns about, the histories go on: the
+/// sender's number and place are those of its history, each PDU under way has the number and the
+/// pieces that it was written with, and as it comes the receiver stays beside the history.
+pub fn um_pairs_are_lived()
+    ensures { UmPairsAreLived }
+{}
+
+/// So they do as both ends begin another life.
+pub fn um_pairs_live_on()
+    ensures { UmPairsLiveOn }
+{}
+
+/// All that goes up at an end is what the history of the flow to it joins.
+pub fn um_ups_are_joined()
+    ensures { UmUpsAreJoined }
+{}
+
+/// Where no number came UM_Window_Size or more above VR(UH), they are some of the SDUs that were
+/// written, in order, and PDCP reads their COUNTs truly as long as not too many are left out.
+pub fn um_ups_are_true()
+    ensures { UmUpsAreTrue }
+{}
+
+/// Through lives the histories go on so from the outset, and PDUs come in time: a sender writes no
+/// number that stands UM_Window_Size or more above one that is under way.
+pub fn pdus_come_in_time()
+    ensures { PdusComeInTime }
+{}
+
+/// So they go on along the steps of two ends with their blocks under way, of whose channel the
+/// bearers are those of the pair.
+pub fn um_channels_are_lived()
+    ensures { UmChannelsAreLived }
 {}

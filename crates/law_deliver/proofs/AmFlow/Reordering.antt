@@ -78,14 +78,14 @@ use Rattle.law_deliver.specs.AmFlow.Reordering.{reordering_by, reordering_over, 
 
 -- ---- events of something else
 
-abbrev Silent : List Event → Type 0
+abbrev pub Silent : List Event → Type 0
 Silent told = reordering_in told ≡ []
 
 pub in_both : (xs ys : List Event) → reordering_in (xs ++ ys) ≡ reordering_in xs ++ reordering_in ys
 in_both xs ys = flat_map-append reordering_told xs ys
 
 -- behind others nothing more is told
-then_silent : (xs ys : List Event) → Silent ys → reordering_in (xs ++ ys) ≡ reordering_in xs
+pub then_silent : (xs ys : List Event) → Silent ys → reordering_in (xs ++ ys) ≡ reordering_in xs
 then_silent xs ys e = in_both xs ys ∙ (ap (λ (zs : List Reordering). reordering_in xs ++ zs) e
     ∙ append-nil (reordering_in xs))
 
@@ -116,7 +116,7 @@ next_silent lcid kind (Some n) = by n.count
     by None = own_silent lcid kind n.octets
     by (Some count) = refl
 
-take_silent : (e : Ends) → Silent (taking_told e)
+pub take_silent : (e : Ends) → Silent (taking_told e)
 unfolding taking_told
 take_silent e = next_silent e.lcid e.kind (pdcp_taking e.tx)
 
@@ -178,7 +178,7 @@ got_silent (got_as.Report fms bitmap) cause e = by (is_applied e cause fms)
     by false = refl
 got_silent (got_as.Unreadable fault) cause e = refl
 
-heard_silent : (pdu : List ℕ) (cause : Cause) (e : Ends) → Silent (heard_told pdu cause e)
+pub heard_silent : (pdu : List ℕ) (cause : Cause) (e : Ends) → Silent (heard_told pdu cause e)
 unfolding heard_told
 heard_silent pdu cause e = got_silent (got e.rx pdu cause) cause (with_arrived pdu cause e)
 
@@ -203,7 +203,7 @@ all_silent (sdu ∷ sdus) w = all_silent sdus (hears sdu w) ∙ hears_silent sdu
 
 -- ---- a PDU arrives
 
-turned_is : (lcid : ℕ) (t : Turned) → reordering_in (turned_told lcid t) ≡ starts_if t.started
+pub turned_is : (lcid : ℕ) (t : Turned) → reordering_in (turned_told lcid t) ≡ starts_if t.started
 turned_is lcid t = by t.stopped t.started
   where
     by : (stopped started : Bool)
@@ -378,7 +378,7 @@ late_silent lcid (w ∷ ws) s = by (is_overdue s) (late_silent lcid ws (after_la
     by true rest = rest
     by false rest = refl
 
-tick_silent : (e : Ends) → Silent (tick_told e)
+pub tick_silent : (e : Ends) → Silent (tick_told e)
 unfolding tick_told
 tick_silent e = late_silent e.lcid e.tx.waiting (pdcp_ticked e.tx)
 

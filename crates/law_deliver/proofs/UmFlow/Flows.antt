@@ -39,7 +39,7 @@ use Rattle.law_deliver.proofs.UmFlow.Calls.{deed_is}
 
 -- ---- at both ends
 
-all_at : {A : Type 0} (P : A → Type 0) (xs : List A) (k : ℕ) (x : A) → AllByRecursion P xs → slice_get xs k ≡ Some x
+pub all_at : {A : Type 0} (P : A → Type 0) (xs : List A) (k : ℕ) (x : A) → AllByRecursion P xs → slice_get xs k ≡ Some x
     → P x
 all_at P [] k x h e = let no : None ≡ Some x = e in absurd cc
 all_at P (y ∷ ys) zero x h e = let same : Some y ≡ Some x = e in let is : y ≡ x = cc in subst P is h.0
@@ -58,7 +58,7 @@ comes_bits : (e : BearerEnd) (o : Option Copy) → (comes e o).bearer.bits ≡ e
 comes_bits e None = refl
 comes_bits e (Some c) = (stays_set e.bearer (Arrive c.octets)).bits_are
 
-does_bits : (other e : BearerEnd) (d : Deed) → (does other e d).bearer.bits ≡ e.bearer.bits
+pub does_bits : (other e : BearerEnd) (d : Deed) → (does other e d).bearer.bits ≡ e.bearer.bits
 does_bits other e (Calls c) = (stays_set e.bearer c).bits_are
 does_bits other e (Comes k) = comes_bits e (slice_get other.copies k)
 does_bits other e (Goes k) = refl

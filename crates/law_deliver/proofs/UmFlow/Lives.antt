@@ -31,7 +31,7 @@ all_stay_set b (c ∷ cs) =
     let rest = all_stay_set (called b c) cs in
     record { bits_are = rest.bits_are ∙ one.bits_are; reorder_is = rest.reorder_is ∙ one.reorder_is }
 
-begins_anew : (b : State) (keys : Keys) → BeginsLife b.bits b.reorder (restarted (stopped b) keys)
+pub begins_anew : (b : State) (keys : Keys) → BeginsLife b.bits b.reorder (restarted (stopped b) keys)
 unfolding restarted stopped
 begins_anew b keys = record { bits_are = refl; sends = refl; receives = refl }
 

@@ -143,7 +143,7 @@ in_range tx size held u some g = record {
 }
 
 -- no PDU under way lies a window below the next number
-still_recent : (tx : Sender) (held : Option ℕ) (n : ℕ) (c : Copy) → is_held held tx ≡ false → IsHeld held c
+pub still_recent : (tx : Sender) (held : Option ℕ) (n : ℕ) (c : Copy) → is_held held tx ≡ false → IsHeld held c
     → tx.next ≡ n → n + 1 ≤ c.number + width_of tx.bits
 still_recent tx None n c free low e = absurd low
 still_recent tx (Some number) n c free low e = let above : tx.next < number + width_of tx.bits =
@@ -172,7 +172,7 @@ copies_grow bits tx held made p (c ∷ cs) b free e low h =
       copies_grow bits tx held made p cs b free e low.1 h.1,
     )
 
-some_numbers : (bits : ℕ) → IsUmBits bits → 0 < width_of bits
+pub some_numbers : (bits : ℕ) → IsUmBits bits → 0 < width_of bits
 some_numbers bits (inl e) = subst (λ (b : ℕ). 0 < width_of b) (sym e) (omega arith)
 some_numbers bits (inr e) = subst (λ (b : ℕ). 0 < width_of b) (sym e) (omega arith)
 
@@ -284,7 +284,8 @@ takes_one bits reorder steps calls tx rx cs given heard size held u low h =
 
 -- ---- what is under way is let go
 
-each_except : {A : Type 0} (P : A → Type 0) (k : ℕ) (xs : List A) → AllByRecursion P xs → AllByRecursion P (except k xs)
+pub each_except : {A : Type 0} (P : A → Type 0) (k : ℕ) (xs : List A) → AllByRecursion P xs
+    → AllByRecursion P (except k xs)
 each_except P k [] h = h
 each_except P zero (x ∷ xs) h = h.1
 each_except P (suc k) (x ∷ xs) h = (h.0, each_except P k xs h.1)

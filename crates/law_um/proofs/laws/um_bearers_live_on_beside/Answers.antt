@@ -1,0 +1,5 @@
+use Rattle.law_um.proofs.UmTimers.{um_bearers_live_on_beside}
+use Rattle.law_um.proofs.laws.um_bearers_live_on_beside.Goals as goal
+
+pub returns : goal.returns
+returns c = um_bearers_live_on_beside

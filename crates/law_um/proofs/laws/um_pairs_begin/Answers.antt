@@ -1,0 +1,5 @@
+use Rattle.law_um.proofs.UmLived.{um_pairs_begin}
+use Rattle.law_um.proofs.laws.um_pairs_begin.Goals as goal
+
+pub returns : goal.returns
+returns c = um_pairs_begin
