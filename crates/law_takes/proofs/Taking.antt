@@ -21,7 +21,7 @@ use Rattle.law_takes.proofs.Numbered.{one, one-behind, first-of, above-is-as}
 use Rattle.law_takes.proofs.Kept.{counts, unacked-behind, data-more, data-again, data-own, trims-kept}
 use Rattle.law_takes.proofs.Kept.{trims-between, grows, kept-once}
 use Rattle.law_takes.proofs.Settling.{settles, none-reported, none-at, bound-stays}
-use Rattle.law_takes.proofs.Waiting.{one-less}
+use Rattle.law_takes.proofs.Waiting.{settled_as, one-less}
 use Rattle.law_takes.proofs.Turns.{HasAgain, HasNew, Turn, Reports, Again, New, Rests, turn}
 
 -- ---- the status report
@@ -40,21 +40,7 @@ takes-report s t h = record {
   again = h.again;
   kept = ap (λ (l : List Sent). from_unacked (l ++ s.again)) (data-own s.given.entries) ∙ h.kept;
   given = subst (λ (l : List Sent). AreBetween 0 (counts l) t.at) (sym (data-own s.given.entries)) h.given;
-  account = record {
-    order = record {
-      from_low = h.account.order.from_low;
-      from_at = h.account.order.from_at;
-      begun = h.account.order.begun;
-      low = h.account.order.low;
-      at = h.account.order.at;
-      within = h.account.order.within;
-      sdus = h.account.order.sdus;
-      taken = h.account.order.taken;
-      reported = h.account.order.reported;
-    };
-    low_open = h.account.low_open;
-    at_open = h.account.at_open;
-  };
+  account = settled_as t t.waiting false h.account;
 }
 
 -- ---- an SDU again

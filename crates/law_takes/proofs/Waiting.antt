@@ -4,7 +4,7 @@ use Rattle.std.proofs.Common.{ap, ◌∙◌, arith, ◌-◌, ◌^◌, min, Optio
 use Rattle.pdcp_tx_store.specs.Waiting.{Waits}
 use Rattle.pdcp_tx.specs.State.{State, start, submitted, is_overdue, after_late}
 use Rattle.journal_takes.specs.FlowTakes.{FlowTakes}
-use Rattle.law_takes.specs.Accounted.{IsAccounted}
+use Rattle.law_takes.specs.Accounted.{IsSettled, IsAccounted}
 use Rattle.law_takes.specs.Laws.{SendersBegin, SubmitsAreAccounted, DiscardsAreAccounted, discarded_if}
 
 pub senders_begin : SendersBegin
@@ -43,6 +43,25 @@ senders_begin bits first p = record {
 abbrev pub sdus : List Waits → List (List ℕ)
 sdus ws = map (λ w. w.sdu) ws
 
+-- SDUs that wait, and a report that is due, settle nothing else
+pub settled_as : (t : FlowTakes) (xs : List (List ℕ)) (due : Bool) → IsSettled t
+    → IsSettled (record t { waiting = xs; due = due })
+settled_as t xs due h = record {
+  order = record {
+    from_low = h.order.from_low;
+    from_at = h.order.from_at;
+    begun = h.order.begun;
+    low = h.order.low;
+    at = h.order.at;
+    within = h.order.within;
+    sdus = h.order.sdus;
+    taken = h.order.taken;
+    reported = h.order.reported;
+  };
+  low_open = h.low_open;
+  at_open = h.at_open;
+}
+
 waits : (s : State) (t : FlowTakes) (ws : List Waits) (xs : List (List ℕ)) (clock : ℕ) (discard : Option ℕ)
     → sdus ws ≡ xs → IsAccounted s t
     → IsAccounted (record s { waiting = ws; clock = clock; discard = discard }) (record t { waiting = xs })
@@ -58,21 +77,7 @@ waits s t ws xs clock discard e h = record {
   again = h.again;
   kept = h.kept;
   given = h.given;
-  account = record {
-    order = record {
-      from_low = h.account.order.from_low;
-      from_at = h.account.order.from_at;
-      begun = h.account.order.begun;
-      low = h.account.order.low;
-      at = h.account.order.at;
-      within = h.account.order.within;
-      sdus = h.account.order.sdus;
-      taken = h.account.order.taken;
-      reported = h.account.order.reported;
-    };
-    low_open = h.account.low_open;
-    at_open = h.account.at_open;
-  };
+  account = settled_as t xs t.due h.account;
 }
 
 one-more : (ws : List Waits) (w : Waits) → sdus (ws ++ w ∷ []) ≡ sdus ws ++ w.sdu ∷ []
