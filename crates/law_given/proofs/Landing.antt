@@ -380,6 +380,23 @@ some-given bits said [] [] (suc m) h le e = absurd (omega (arith, le))
 some-given bits said [] (pdu ∷ pdus) (suc m) h le e = absurd h
 some-given bits said (count ∷ counts) offered (suc m) h le e = omega arith
 
+-- another is waited for
+waits-for : (p : Progress) (x : Sending) (s : Supply History) (now : Bool) (waited : Option ℕ) (h : IsSupplied p x s)
+    → waited ≡ (if now then None else report_in h.given) → (now ≡ true → 0 < s.given)
+    → IsSupplied (record p { came = now }) x (record s { report = waited })
+waits-for p x s now waited h e some = record {
+  bits = h.bits;
+  given = h.given;
+  told = h.told;
+  many = h.many;
+  pdus = h.pdus;
+  unconfirmed = h.unconfirmed;
+  only_given = h.only_given;
+  owed = h.owed;
+  report = e;
+  came = some;
+}
+
 gone-beside : (p : Progress) (x : Sending) (sequenced : ℕ → Bool) (ready : List (List ℕ)) (s : Supply History)
     → BringsInSequence p sequenced ready → IsSupplied p x s
     → IsSupplied (record p { came = sequenced 0 }) x (gone_by sequenced s)
@@ -397,30 +414,8 @@ gone-beside p x sequenced ready s k h =
 
     by : (b : Bool) → (if b then None else s.report) ≡ (if sequenced 0 then None else report_in h.given)
         → IsSupplied (record p { came = sequenced 0 }) x (if b then record s { report = None } else s)
-    by true e = record {
-      bits = h.bits;
-      given = h.given;
-      told = h.told;
-      many = h.many;
-      pdus = h.pdus;
-      unconfirmed = h.unconfirmed;
-      only_given = h.only_given;
-      owed = h.owed;
-      report = e;
-      came = some;
-    }
-    by false e = record {
-      bits = h.bits;
-      given = h.given;
-      told = h.told;
-      many = h.many;
-      pdus = h.pdus;
-      unconfirmed = h.unconfirmed;
-      only_given = h.only_given;
-      owed = h.owed;
-      report = e;
-      came = some;
-    }
+    by true e = waits-for p x s (sequenced 0) None h e some
+    by false e = waits-for p x s (sequenced 0) s.report h e some
 
 gone-bits : (sequenced : ℕ → Bool) (s : Supply History) → (gone_by sequenced s).bits ≡ s.bits
 gone-bits sequenced s = by (comes_by sequenced s.report)

@@ -24,7 +24,7 @@ use Rattle.bearer_pdcp.specs.Taking.{report_told, next_told}
 use Rattle.journal_lives.specs.CountsCome.{CountsCome}
 use Rattle.journal_takes.specs.declared.take.Take.{Take}
 use Rattle.journal_takes.specs.declared.take.Take.TheVariants.{Report, Pdu}
-use Rattle.journal_takes.specs.TakeEvents.{SduSubmitted, PduTaken, ReportTaken, next_new, kept}
+use Rattle.journal_takes.specs.TakeEvents.{TakeEvent, SduSubmitted, PduTaken, ReportTaken, next_new, kept}
 use Rattle.journal_takes.specs.FlowTakes.{next_take, sdu_kept}
 use Rattle.journal_takes.proofs.TakesTold.{takes_are_true}
 use Rattle.journal_given.specs.declared.supply.GivenPdu.{GivenPdu}
@@ -39,7 +39,8 @@ use Rattle.law_takes.proofs.Numbered.{one}
 use Rattle.law_takes.proofs.Turns.{Turn, Reports, Again, New, Rests, turn, offers-as, offers_are_accounted}
 use Rattle.law_takes.proofs.Histories.{waits-told}
 use Rattle.law_takes.proofs.Deeds.{deeds_are_told}
-use Rattle.law_given.specs.Supplied.{Progress, unconfirmed_from, IsReadAs, IsNoReport, IsPdu, ArePdus, AreCounts}
+use Rattle.law_given.specs.Supplied.{IsOwed, Progress, unconfirmed_from, IsReadAs, IsNoReport, IsPdu, ArePdus}
+use Rattle.law_given.specs.Supplied.{AreCounts}
 use Rattle.law_given.specs.Supplied.{IsReportFirst, IsOwed, report_in, run_of, IsSupplied}
 use Rattle.law_given.specs.SupplyLaws.{supplied_by, supplied_all, AreRight, with_offered, GivenAreOffered}
 use Rattle.law_given.specs.SupplyLaws.{MoreIsTakeable}
@@ -72,50 +73,40 @@ went-then p q x y xs ys s h k = record {
 
 -- ---- the SDUs that wait
 
+-- other events are told, of a sender that owes the same
+pub tells-alone : (p : Progress) (x y : Sending) (s : Supply History) (es : List TakeEvent) (h : IsSupplied p x s)
+    → IsTold s.takes.first s.takes.bits (run_of y h.given (record s.takes { events = es })) → y.owed ≡ x.owed
+    → IsSupplied p y (record s { takes = record s.takes { events = es } })
+tells-alone p x y s es h told owed = record {
+  bits = h.bits;
+  given = h.given;
+  told = told;
+  many = h.many;
+  pdus = h.pdus;
+  unconfirmed = h.unconfirmed;
+  only_given = h.only_given;
+  owed = subst (λ (o : Option (List ℕ)). IsOwed s.bits s.said h.given o) (sym owed) h.owed;
+  report = h.report;
+  came = h.came;
+}
+
 pub submits : (p : Progress) (x : Sending) (s : Supply History) (sdu : List ℕ) → IsSupplied p x s
     → IsSupplied p (submitted x sdu) (told histories (SduSubmitted sdu) s)
 unfolding submitted
-submits p x s sdu h = record {
-  bits = h.bits;
-  given = h.given;
-  told = deeds_are_told s.takes.first s.takes.bits (run_of x h.given s.takes) (Submits sdu) tt h.told;
-  many = h.many;
-  pdus = h.pdus;
-  unconfirmed = h.unconfirmed;
-  only_given = h.only_given;
-  owed = h.owed;
-  report = h.report;
-  came = h.came;
-}
+submits p x s sdu h =
+    tells-alone p x (submitted x sdu) s (SduSubmitted sdu ∷ s.takes.events) h
+    (deeds_are_told s.takes.first s.takes.bits (run_of x h.given s.takes) (Submits sdu) tt h.told) refl
 
 pub ticks : (p : Progress) (x : Sending) (s : Supply History) → IsSupplied p x s → IsSupplied p (ticked x) s
-ticks p x s h = record {
-  bits = h.bits;
-  given = h.given;
-  told = deeds_are_told s.takes.first s.takes.bits (run_of x h.given s.takes) Ticks tt h.told;
-  many = h.many;
-  pdus = h.pdus;
-  unconfirmed = h.unconfirmed;
-  only_given = h.only_given;
-  owed = h.owed;
-  report = h.report;
-  came = h.came;
-}
+ticks p x s h =
+    tells-alone p x (ticked x) s s.takes.events h
+    (deeds_are_told s.takes.first s.takes.bits (run_of x h.given s.takes) Ticks tt h.told) refl
 
 pub sets-discard : (p : Progress) (x : Sending) (s : Supply History) (ttis : ℕ) → IsSupplied p x s
     → IsSupplied p (record x { discard = Some ttis }) s
-sets-discard p x s ttis h = record {
-  bits = h.bits;
-  given = h.given;
-  told = deeds_are_told s.takes.first s.takes.bits (run_of x h.given s.takes) (SetsDiscard ttis) tt h.told;
-  many = h.many;
-  pdus = h.pdus;
-  unconfirmed = h.unconfirmed;
-  only_given = h.only_given;
-  owed = h.owed;
-  report = h.report;
-  came = h.came;
-}
+sets-discard p x s ttis h =
+    tells-alone p x (record x { discard = Some ttis }) s s.takes.events h
+    (deeds_are_told s.takes.first s.takes.bits (run_of x h.given s.takes) (SetsDiscard ttis) tt h.told) refl
 
 late-some : (discard : Option ℕ) (clock : ℕ) (ws : List Waits) → is_late discard clock (slice_get ws 0) ≡ true
     → 0 < length (map (λ w. w.sdu) ws)

@@ -1,5 +1,5 @@
 -- Status reports that arrive, and lives, beside what is gathered.
-use Rattle.std.proofs.Common.{◌≡◌, ℕ, Bool, true, false, if◌then◌else◌, Option, Some, None, List, [], ◌∷◌, map, Result}
+use Rattle.std.proofs.Common.{◌≡◌, ℕ, Bool, true, false, Option, Some, None, List, [], ◌∷◌, map, Result}
 use Rattle.std.proofs.Common.{Ok, refl, ap, sym, ◌∙◌, subst, inl}
 use Rattle.bearer_types.specs.Sides.{other}
 use Rattle.eps_sec.specs.declared.Keys.{Keys}
@@ -25,9 +25,8 @@ use Rattle.bearer.specs.declared.flow.Flow.TheVariants.{Am}
 use Rattle.bearer.specs.Bearer.{flow_of}
 use Rattle.bearer.specs.Hearing.{arrived}
 use Rattle.journal_lives.specs.CountsCome.{CountsCome}
-use Rattle.journal_lives.specs.FlowLives.{FlowLives}
 use Rattle.journal_takes.specs.TakeEvents.{ReportHeard}
-use Rattle.journal_given.specs.Supplies.{Supply, History, histories, begun, told, is_sequenced_by, has_come, life_ended}
+use Rattle.journal_given.specs.Supplies.{Supply, History, histories, begun, told, life_ended}
 use Rattle.law_bearer.specs.AnyBearer.Calls.{Arrive, after}
 use Rattle.law_bearer.specs.AmBearer.Deeds.{after_heard, hears_one}
 use Rattle.law_bearer.specs.AmBearer.Lives.{closed, restarts, protection_at}
@@ -37,8 +36,8 @@ use Rattle.law_bearer.proofs.AmBearer.Lives.{restarts_are_deeds, ends_begin_alik
 use Rattle.law_takes.specs.Laws.{IsReport}
 use Rattle.law_takes.specs.Histories.{Hears, Restarts}
 use Rattle.law_takes.proofs.Deeds.{deeds_are_told, runs_are_told}
-use Rattle.law_given.specs.Supplied.{Progress, outset, IsReadAs, IsOwed, report_in, run_of, IsSupplied}
-use Rattle.law_given.specs.SupplyLaws.{AreReports, hears_all, DataIsGathered, ReportsCome, RefusedStay, SuppliesBegin}
+use Rattle.law_given.specs.Supplied.{Progress, outset, IsReadAs, IsOwed, run_of, IsSupplied}
+use Rattle.law_given.specs.SupplyLaws.{AreReports, hears_all, DataIsGathered, RefusedStay, SuppliesBegin}
 use Rattle.law_given.specs.SupplyLaws.{LivesAreGathered}
 
 -- ---- a status report
@@ -66,57 +65,6 @@ one-heard p x s from marks fms bitmap r h = record {
   report = h.report;
   came = h.came;
 }
-
-never-waited : (b : Bool) (none : Option ℕ) → none ≡ (if b then none else none)
-never-waited true none = refl
-never-waited false none = refl
-
--- what isn't waited for any more
-gone-as : (o : Option FlowLives) (came now : Bool) (waited : Option ℕ) (given : List (Option ℕ))
-    → (came ≡ true → now ≡ true) → is_sequenced_by o 0 ≡ now → waited ≡ (if came then None else report_in given)
-    → (if has_come o waited then None else waited) ≡ (if now then None else report_in given)
-gone-as o true now waited given f is e =
-    ap (λ (r : Option ℕ). if has_come o r then None else r) e
-    ∙ ap (λ (b : Bool). if b then None else report_in given) (sym (f refl))
-gone-as o false now waited [] f is e = ap (λ (r : Option ℕ). if has_come o r then None else r) e ∙ never-waited now None
-gone-as o false now waited (None ∷ counts) f is e =
-    ap (λ (r : Option ℕ). if has_come o r then None else r) e
-    ∙ ap (λ (b : Bool). if b then None else Some 0) is
-gone-as o false now waited (Some count ∷ counts) f is e =
-    ap (λ (r : Option ℕ). if has_come o r then None else r) e ∙ never-waited now None
-
-pub reports_come : ReportsCome
-reports_come p x own s c h =
-    by (has_come own s.report)
-    (gone-as own p.came (is_sequenced_by own 0) s.report h.given c.stays refl h.report)
-  where
-    by : (b : Bool)
-        → (if b then None else s.report) ≡ (if is_sequenced_by own 0 then None else report_in h.given)
-        → IsSupplied (record p { came = is_sequenced_by own 0 }) x (if b then record s { report = None } else s)
-    by true e = record {
-      bits = h.bits;
-      given = h.given;
-      told = h.told;
-      many = h.many;
-      pdus = h.pdus;
-      unconfirmed = h.unconfirmed;
-      only_given = h.only_given;
-      owed = h.owed;
-      report = e;
-      came = c.some;
-    }
-    by false e = record {
-      bits = h.bits;
-      given = h.given;
-      told = h.told;
-      many = h.many;
-      pdus = h.pdus;
-      unconfirmed = h.unconfirmed;
-      only_given = h.only_given;
-      owed = h.owed;
-      report = e;
-      came = c.some;
-    }
 
 -- ---- a data PDU
 

@@ -18,18 +18,21 @@ use Rattle.law_given.specs.SupplyLaws.{SaidIsRead}
 
 -- ---- the COUNTs that it marks
 
-marks-none : (bitmap : List ℕ) (first k n count : ℕ) → count < first + k
+-- a COUNT that isn't that of one of the bits
+marks-none : (bitmap : List ℕ) (first k n count : ℕ)
+    → ((at : ℕ) → k ≤ at → at < k + n → first + at ≡ count → ⊥)
     → has_count (marked_from bitmap first k n) count ≡ false
-marks-none bitmap first k zero count lt = refl
-marks-none bitmap first k (suc n) count lt =
-    by (bit_of bitmap k) (marks-none bitmap first (k + 1) n count (omega (arith, lt)))
+marks-none bitmap first k zero count other = refl
+marks-none bitmap first k (suc n) count other =
+    by (bit_of bitmap k)
+    (marks-none bitmap first (k + 1) n count (λ at le lt. other at (omega (arith, le)) (omega (arith, lt))))
   where
     by : (b : Bool) → has_count (marked_from bitmap first (k + 1) n) count ≡ false
         → has_count (if b then (first + k) ∷ marked_from bitmap first (k + 1) n
         else marked_from bitmap first (k + 1) n) count ≡ false
     by true rest =
         ap (λ (b : Bool). b || has_count (marked_from bitmap first (k + 1) n) count)
-        (ne_eqb (first + k) count (λ e. absurd (omega (arith, e, lt)))) ∙ rest
+        (ne_eqb (first + k) count (λ e. other k (omega arith) (omega arith) e)) ∙ rest
     by false rest = rest
 
 -- so many bits from one on
@@ -59,7 +62,7 @@ marks-so bitmap first k (suc n) at le lt = elim (cases_lt k at) [
         (eq-eqb (first + k) (first + at) (omega (arith, same)))
         ∙ sym (sym (ap (bit_of bitmap) same) ∙ is)
     first' false is same =
-        marks-none bitmap first (k + 1) n (first + at) (omega (arith, same))
+        marks-none bitmap first (k + 1) n (first + at) (λ i le' lt' e. omega (arith, same, le', e))
         ∙ sym (sym (ap (bit_of bitmap) same) ∙ is)
 
 zero-bit : (d : ℕ) → (0 / d % 2 == 1) ≡ false
@@ -74,22 +77,8 @@ marks-all : (bitmap : List ℕ) (first n at : ℕ) → (n ≤ at → bit_of bitm
     → has_count (marked_from bitmap first 0 n) (first + at) ≡ bit_of bitmap at
 marks-all bitmap first n at f = elim (cases_lt at n) [
   | inl lt ↦ marks-so bitmap first 0 n at (omega arith) (omega (arith, lt))
-  | inr ge ↦ marks-end bitmap first 0 n (first + at) (omega (arith, ge)) ∙ sym (f ge)
+  | inr ge ↦ marks-none bitmap first 0 n (first + at) (λ k le lt e. omega (arith, lt, e, ge)) ∙ sym (f ge)
 ]
-  where
-    marks-end : (bitmap : List ℕ) (first k n count : ℕ) → first + k + n ≤ count
-        → has_count (marked_from bitmap first k n) count ≡ false
-    marks-end bitmap first k zero count le = refl
-    marks-end bitmap first k (suc n) count le =
-        by (bit_of bitmap k) (marks-end bitmap first (k + 1) n count (omega (arith, le)))
-      where
-        by : (b : Bool) → has_count (marked_from bitmap first (k + 1) n) count ≡ false
-            → has_count (if b then (first + k) ∷ marked_from bitmap first (k + 1) n
-            else marked_from bitmap first (k + 1) n) count ≡ false
-        by true rest =
-            ap (λ (b : Bool). b || has_count (marked_from bitmap first (k + 1) n) count)
-            (ne_eqb (first + k) count (λ e. absurd (omega (arith, e, le)))) ∙ rest
-        by false rest = rest
 
 -- from its FMS on
 pub marks-tell : (bitmap : List ℕ) (from count : ℕ) → from ≤ count
@@ -102,7 +91,7 @@ marks-tell bitmap from count le = elim (cases_lt from count) [
       ∙ ap (λ (b : Bool). b && bit_of bitmap (count - from - 1)) (sym (lt-ltb from count lt))
       ∙ ap (λ (b : Bool). b || (nat_lt from count && bit_of bitmap (count - from - 1))) (sym (le-ltb count from le))
   | inr ge ↦
-      marks-none bitmap (from + 1) 0 (8 * length bitmap) count (omega (arith, ge))
+      marks-none bitmap (from + 1) 0 (8 * length bitmap) count (λ i le' lt' e. omega (arith, ge, e))
       ∙ ap (λ (b : Bool). b && bit_of bitmap (count - from - 1)) (sym (le-ltb from count ge))
       ∙ ap (λ (b : Bool). b || (nat_lt from count && bit_of bitmap (count - from - 1))) (sym (le-ltb count from le))
 ]

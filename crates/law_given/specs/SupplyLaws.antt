@@ -1,8 +1,8 @@
 -- What a call of an acknowledged data bearer makes of what PDCP gives RLC is what a checker gathers
 -- of the events that it tells, in their order (docs/laws/ACCOUNT.md; TS 36.323 5.1.1, 5.2.1.1, 5.3,
 -- 5.4, TS 36.322 5.1.3.1.1).
-use Rattle.std.specs.Prelude.{◌≡◌, ℕ, ◌+◌, ◌-◌, ◌^◌, ◌==◌, ◌≤◌, ◌<◌, Bool, true, false, not, ◌&&◌}
-use Rattle.std.specs.Prelude.{length, List, [], ◌∷◌, ◌++◌, map, Option, is_some}
+use Rattle.std.specs.Prelude.{◌≡◌, ℕ, ◌+◌, ◌-◌, ◌^◌, ◌==◌, ◌≤◌, Bool, true, false, not, ◌&&◌}
+use Rattle.std.specs.Prelude.{length, List, [], ◌∷◌, ◌++◌, map, is_some}
 use Rattle.std.specs.Prelude.{Ok, Err}
 use Rattle.std.specs.List.{list_any}
 use Rattle.bearer_types.specs.declared.BearerConfig.{BearerConfig}
@@ -27,10 +27,9 @@ use Rattle.bearer.specs.declared.flow.Flow.TheVariants.{Am}
 use Rattle.bearer.specs.Bearer.{flow_of}
 use Rattle.bearer.specs.Lives.{stopping}
 use Rattle.journal_lives.specs.CountsCome.{CountsCome}
-use Rattle.journal_lives.specs.FlowLives.{FlowLives}
 use Rattle.journal_takes.specs.TakeEvents.{SduSubmitted, SduDiscarded, ReportHeard}
 use Rattle.journal_given.specs.Supplies.{Supply, History, histories, begun, told, takes_pdu}
-use Rattle.journal_given.specs.Supplies.{takes_report, confirms, is_sequenced_by, report_gone}
+use Rattle.journal_given.specs.Supplies.{takes_report, confirms}
 use Rattle.journal_given.specs.Supplies.{life_ended}
 use Rattle.journal_given.specs.RightTakes.{TakeIsRight, IsSaid, ReportIsRight, DiscardIsRight}
 use Rattle.law_bearer.specs.AnyBearer.Acknowledged.{offers_in}
@@ -171,17 +170,6 @@ abbrev pub SaidIsRead : Type 0
 SaidIsRead = (bits : ℕ) (sender : Sending) (fms : ℕ) (bitmap : List ℕ) (said : CountsCome)
     → IsKind (AmKind bits) → sender.kind ≡ AmKind bits → IsSaid fms bitmap bits said
     → IsInWindow bits sender said → IsReport sender said.next said.beyond fms bitmap
-
--- a status report that RLC was given is the first of what it was given: as that one has come the
--- report isn't waited for any more
-pub record Comes (rlc : Progress) (own : Option FlowLives) (given : ℕ) : Type 0 where
-  pub some : is_sequenced_by own 0 ≡ true → 0 < given
-  pub stays : rlc.came ≡ true → is_sequenced_by own 0 ≡ true
-
-abbrev pub ReportsCome : Type 0
-ReportsCome = (rlc : Progress) (sender : Sending) (own : Option FlowLives) (s : Supply History)
-    → Comes rlc own s.given → IsSupplied rlc sender s
-    → IsSupplied (record rlc { came = is_sequenced_by own 0 }) sender (report_gone own s)
 
 -- ---- what arrives, and what goes up as a life ends, tells nothing else
 

@@ -15,13 +15,12 @@ ghost use Rattle.law_given.specs.Confirming.{OnlyStatusesConfirm, ConfirmedStays
 ghost use Rattle.law_given.specs.Confirming.{FlowsHandUpAsTold};
 ghost use Rattle.law_given.specs.Deeds.{DeedsTakeAlike};
 ghost use Rattle.law_given.specs.SupplyLaws.{CallsAreGathered, MoreIsTakeable, StatusesAreGathered};
-ghost use Rattle.law_given.specs.SupplyLaws.{DataIsGathered, SaidIsRead, ReportsCome};
+ghost use Rattle.law_given.specs.SupplyLaws.{DataIsGathered, SaidIsRead};
 ghost use Rattle.law_given.specs.SupplyLaws.{ArrivalsTellNothing, EndsTellNothing, RefusedStay};
 ghost use Rattle.law_given.specs.SupplyLaws.{SuppliesBegin, LivesAreGathered};
 ghost use Rattle.law_given.specs.Joined.{BearersAreJoined, ReportsAreRead};
 ghost use Rattle.law_given.specs.SupplyLaws.{CallsAreGathered, GivenAreOffered, MoreIsTakeable};
 ghost use Rattle.law_given.specs.SupplyLaws.{StatusesAreGathered, DataIsGathered};
-ghost use Rattle.law_given.specs.SupplyLaws.{SaidIsRead, ReportsCome};
 ghost use Rattle.law_given.specs.Saying.{ReportsSayWhatHasCome, EndsSayWhatHasCome};
 ghost use Rattle.law_given.specs.Saying.{LivesSayWhatHasCome, CountsComeAsHanded, LivesBeginBeside};
 ghost use Rattle.law_given.specs.Saying.{WithinBeside, GivenBeside, EndedBeside, BegunAlike};
@@ -170,12 +169,6 @@ pub fn data_is_gathered()
 /// FMS lies in the window.
 pub fn said_is_read()
     ensures { SaidIsRead }
-{}
-
-/// The status report is the first PDU of a life that has one: a checker waits for it until that has
-/// come.
-pub fn reports_come()
-    ensures { ReportsCome }
 {}
 
 /// What arrives, and what goes up as a life ends, tells nothing of what RLC takes; and what can't
