@@ -14,3 +14,4 @@ pub mod Unset
 pub mod Submitted
 pub mod Delivery
 pub mod Drained
+pub mod OneCall

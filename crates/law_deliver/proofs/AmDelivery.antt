@@ -1,6 +1,7 @@
 pub mod Joined
 pub mod Ways
 pub mod Accounts
+pub mod Lasting
 pub mod Arrived
 pub mod Promises
 pub mod Ends

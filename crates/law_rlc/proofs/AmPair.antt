@@ -17,6 +17,7 @@ pub mod Covered
 pub mod Sequence
 pub mod Later
 pub mod Steps
+pub mod Confirming
 pub mod ByPlace
 pub mod Left
 pub mod Laws

@@ -27,6 +27,7 @@ use Rattle.law_deliver.proofs.AmFlow.Stations.{calls_by as block_calls}
 use Rattle.law_deliver.specs.Accepted.{IsAccepted}
 use Rattle.law_deliver.specs.AmDelivery.Lives.{LifeStep, InLife, lives, call_by, call_of, calls_in}
 use Rattle.law_deliver.specs.AmDelivery.Lives.{MayBeDone, AreLiving}
+use Rattle.law_deliver.proofs.AmDelivery.Lasting.{IsOfLife}
 use Rattle.law_deliver.specs.AmChannel.Lives.{brought, calls_by}
 use Rattle.law_deliver.specs.AmChannel.Delivery.{steps_over}
 use Rattle.law_deliver.proofs.AmChannel.Ends.{in_life}
@@ -65,6 +66,10 @@ in_life_all ss = map (λ s. InLife s) ss
 pub lives_in : (ss : List Step) (p : Pair) → lives (in_life_all ss) p ≡ goes ss p
 lives_in [] p = refl
 lives_in (s ∷ ss) p = lives_in ss (happens p s)
+
+pub all_of_life : (ss : List Step) → AllByRecursion IsOfLife (in_life_all ss)
+all_of_life [] = tt
+all_of_life (s ∷ ss) = (tt, all_of_life ss)
 
 pub near_living : (p : Pair) (ds : List Deed) → AreDone p.far p.near ds
     → AreAccepted p.near.bearer (all_calls_in p.far ds) → AreLiving p (in_life_all (steps_at Nb ds))

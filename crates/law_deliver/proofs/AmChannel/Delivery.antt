@@ -127,7 +127,7 @@ module _ (l : ℕ) (c : BearerConfig) (keys : Keys) (nb ue : End) (h : AmEndsBeg
   begun Nb = h.nb_begun
   begun Ue = h.ue_begun
 
-  both_match : BothMatch c.pdcp_bits l (outset nb ue) pair
+  pub both_match : BothMatch c.pdcp_bits l (outset nb ue) pair
   both_match = record {
     nb = begins_so Nb l nb (first_of c keys Nb) (begins_life Nb l c keys nb h.kind h.nb_begun);
     ue = begins_so Ue l ue (first_of c keys Ue) (begins_life Ue l c keys ue h.kind h.ue_begun);

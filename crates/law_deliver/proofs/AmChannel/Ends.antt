@@ -2,6 +2,7 @@
 use Rattle.std.proofs.Common.{◌≡◌, ◌⊎◌, inl, inr, ℕ, true, false, Option, Some, None, List, [], ◌∷◌, ◌++◌, map}
 use Rattle.std.proofs.Common.{append-nil, append_assoc, slice_get, refl, ap, sym, subst, ◌∙◌, Bool, if◌then◌else◌}
 use Rattle.std.proofs.lemmas.Grind.{flat_map-append}
+use Rattle.std.proofs.lemmas.List.{map-append}
 use Rattle.std.specs.List.{AllByRecursion, flat_map}
 use Rattle.bearer.specs.declared.flow.Flow.{Flow}
 use Rattle.bearer.specs.Lives.{stopping}
@@ -18,11 +19,11 @@ use Rattle.law_node.specs.Calls.{run_end}
 use Rattle.law_node.specs.Holding.{flow}
 use Rattle.law_node.specs.Telling.{told_of, told_over}
 use Rattle.law_deliver.specs.AmFlow.Air.{Block, Station, Air, Act, Calls, Comes, Goes, AtNb, AtUe, Passes, calls, comes}
-use Rattle.law_deliver.specs.AmFlow.Air.{does, outset, IsDone}
+use Rattle.law_deliver.specs.AmFlow.Air.{Step, does, outset, IsDone}
 use Rattle.law_deliver.specs.AmFlow.Channels.{calls_of, GoesOnInLife}
 use Rattle.bearer_types.specs.declared.event.Event.TheVariants as events
 use Rattle.law_deliver.specs.AmFlow.Ups.{up_on, ups_on, of_calls, tells_in, tells_over, goes_up_in, discarded_in}
-use Rattle.law_deliver.specs.AmFlow.Ups.{IsNew}
+use Rattle.law_deliver.specs.AmFlow.Ups.{IsNew, calls_over}
 use Rattle.promises.specs.Events.{is_on, discards_in, discards_on}
 use Rattle.law_deliver.proofs.AmFlow.Events.{picked_as, picked_over}
 use Rattle.promises.specs.Taken.{leaving_in, TakenSdu, take_in, length_in}
@@ -114,6 +115,28 @@ step_so l Ue a (InLife (AtUe x)) g = act_so l a.nb a.ue x g
 step_so l Ue a (InLife Passes) g = tt
 step_so l Ue a (Moves keys) g = (inr (keys, refl), tt)
 
+-- in a life
+abbrev OfALife : ℕ → List Call → Type 0
+OfALife l cs = AllByRecursion (GoesOnInLife l) cs
+
+brought_in_life : (l : ℕ) (b : Option Block) → OfALife l (brought b)
+brought_in_life l None = tt
+brought_in_life l (Some b) = (record { adds_none = refl; moves_none = refl }, tt)
+
+act_in_life : (l : ℕ) (other s : Station) (x : Act) → IsDone l s x → OfALife l (calls_by other x)
+act_in_life l other s (Calls c) g = (g.1, tt)
+act_in_life l other s (Comes k) g = brought_in_life l (slice_get other.blocks k)
+act_in_life l other s (Goes k) g = tt
+
+pub step_in_life : (l : ℕ) (side : Side) (a : Air) (s : Step) → IsLiving l a (InLife s)
+    → AllByRecursion (GoesOnInLife l) (calls_at side a (InLife s))
+step_in_life l Nb a (AtNb x) g = act_in_life l a.ue a.nb x g
+step_in_life l Nb a (AtUe x) g = tt
+step_in_life l Nb a Passes g = tt
+step_in_life l Ue a (AtNb x) g = tt
+step_in_life l Ue a (AtUe x) g = act_in_life l a.nb a.ue x g
+step_in_life l Ue a Passes g = tt
+
 pub are_calls : (l : ℕ) (side : Side) (xs : List AirStep) (a : Air) → AreLiving l a xs
     → AllByRecursion (IsCall l) (all_calls side xs a)
 are_calls l side [] a g = tt
@@ -152,7 +175,8 @@ module _ {X : Type 0} (of_call : ℕ → Flow → BearerCall → List X) (of_end
       ∙ sym (append_assoc (of_step l f x) (of_steps l (bearer_goes f x) xs)
       (of_steps l (run_bearer xs (bearer_goes f x)) ys))
 
-  of_life : (l : ℕ) (cs : List BearerCall) (f : Flow) → of_steps l f (map (λ x. CallsIt x) cs) ≡ of_calls of_call l f cs
+  pub of_life : (l : ℕ) (cs : List BearerCall) (f : Flow) → of_steps l f (map (λ x. CallsIt x) cs)
+      ≡ of_calls of_call l f cs
   of_life l [] f = refl
   of_life l (c ∷ cs) f = ap (λ (found : List X). of_call l f c ++ found) (of_life l cs (called f c))
 
@@ -300,6 +324,15 @@ one_goes side l e c s (inr (keys, q)) =
 runs_then : (xs ys : List BearerStep) (f : Flow) → run_bearer (xs ++ ys) f ≡ run_bearer ys (run_bearer xs f)
 runs_then [] ys f = refl
 runs_then (x ∷ xs) ys f = runs_then xs ys (bearer_goes f x)
+
+-- the calls of a life
+pub calls_are : (l : ℕ) (cs : List Call) (e : End) → AllByRecursion (GoesOnInLife l) cs
+    → steps_over l cs e ≡ map (λ x. CallsIt x) (calls_over l cs e)
+calls_are l [] e g = refl
+calls_are l (c ∷ cs) e g =
+    ap (λ (xs : List BearerStep). steps_in l e c ++ xs) (calls_are l cs (after e c) g.1)
+    ∙ ap (λ (xs : List BearerStep). xs ++ map (λ x. CallsIt x) (calls_over l cs (after e c))) (in_life l e c g.0)
+    ∙ sym (map-append (λ x. CallsIt x) (calls_of l e c) (calls_over l cs (after e c)))
 
 pub record GoesAll (l : ℕ) (e : End) (cs : List Call) : Type 0 where
   pub bearer_is : flow l (run_end cs e) ≡ run_bearer (steps_over l cs e) (flow l e)

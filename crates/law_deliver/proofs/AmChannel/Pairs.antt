@@ -1,7 +1,7 @@
 -- What an end of a pair takes and hands up through lives, by the steps of its bearer.
 use Rattle.std.proofs.Common.{◌≡◌, ℕ, List, [], ◌∷◌, ◌++◌, map, append_assoc, refl, ap, sym, subst, ◌∙◌}
 use Rattle.bearer.specs.declared.flow.Flow.{Flow}
-use Rattle.bearer.specs.declared.flow.Flow.TheVariants.{Am}
+use Rattle.bearer.specs.declared.flow.Flow.TheVariants.{Tm, Um, Am}
 use Rattle.bearer.specs.Acknowledged.State.{State}
 use Rattle.law_bearer.specs.AnyBearer.Calls.{Call, Step as BearerStep, Calls as CallsIt, after}
 use Rattle.law_bearer.specs.AnyBearer.Queue.{news, all_news}
@@ -16,9 +16,12 @@ use Rattle.law_deliver.specs.AmDelivery.Lives.{LifeStep, InLife, Restarts, lives
 use Rattle.law_deliver.specs.AmDelivery.Lives.{ups_by, news_by, near_ups_in, far_ups_in, near_news_in, far_news_in}
 use Rattle.law_deliver.specs.AmDelivery.Lives.{over}
 use Rattle.law_deliver.specs.AmDelivery.Ends.{near_steps_in, far_steps_in}
+use Rattle.law_deliver.proofs.AmDelivery.Lasting.{given_in, raised_in, given_by, raised_by, near_given_in}
+use Rattle.law_deliver.proofs.AmDelivery.Lasting.{far_given_in, near_raised_in, far_raised_in, confirmed_in}
+use Rattle.law_deliver.proofs.AmDelivery.Lasting.{confirmed_by, near_confirmed_in, far_confirmed_in}
 use Rattle.law_deliver.proofs.AmDelivery.Reached.{Turns, near_turns, far_turns}
 use Rattle.law_deliver.proofs.AmChannel.Bearers.{IsSteady, called_steady, restarts_steady, call_ups, end_ups}
-use Rattle.law_deliver.proofs.AmChannel.Ends.{ends_up, all_ups}
+use Rattle.law_deliver.proofs.AmChannel.Ends.{of_steps, ends_up, all_ups}
 
 -- ---- an end of a pair
 
@@ -34,6 +37,46 @@ abbrev pub news_in_at : Side → Pair → LifeStep → List (List ℕ)
 news_in_at Nb = near_news_in
 news_in_at Ue = far_news_in
 
+-- what its RLC is given, hands up and newly confirms
+abbrev pub given_in_at : Side → Pair → LifeStep → List (List ℕ)
+given_in_at Nb = near_given_in
+given_in_at Ue = far_given_in
+
+abbrev pub raised_in_at : Side → Pair → LifeStep → List (List ℕ)
+raised_in_at Nb = near_raised_in
+raised_in_at Ue = far_raised_in
+
+abbrev pub confirmed_in_at : Side → Pair → LifeStep → List ℕ
+confirmed_in_at Nb = near_confirmed_in
+confirmed_in_at Ue = far_confirmed_in
+
+abbrev pub given_on : ℕ → Flow → Call → List (List ℕ)
+given_on l (Tm b) c = []
+given_on l (Um b) c = []
+given_on l (Am b) c = given_in b c
+
+abbrev pub raised_on : ℕ → Flow → Call → List (List ℕ)
+raised_on l (Tm b) c = []
+raised_on l (Um b) c = []
+raised_on l (Am b) c = raised_in b c
+
+abbrev pub confirmed_on : ℕ → Flow → Call → List ℕ
+confirmed_on l (Tm b) c = []
+confirmed_on l (Um b) c = []
+confirmed_on l (Am b) c = confirmed_in b c
+
+abbrev pub ends_none : {X : Type 0} → ℕ → Flow → List X
+ends_none l f = []
+
+abbrev pub all_given : ℕ → Flow → List BearerStep → List (List ℕ)
+all_given = of_steps given_on ends_none
+
+abbrev pub all_raised : ℕ → Flow → List BearerStep → List (List ℕ)
+all_raised = of_steps raised_on ends_none
+
+abbrev pub all_confirmed : ℕ → Flow → List BearerStep → List ℕ
+all_confirmed = of_steps confirmed_on ends_none
+
 -- the steps of its bearer
 abbrev pub does_at : Side → Pair → LifeStep → List BearerStep
 does_at Nb = near_steps_in
@@ -48,11 +91,23 @@ record Few (bits l : ℕ) (cs : List Call) (b d : State) (xs : List BearerStep) 
   steady : IsSteady bits l d
   ups_are : all_ups l (Am b) (map (λ c. CallsIt c) cs ++ xs) ≡ ups_by b cs ++ all_ups l (Am d) xs
   news_are : all_news (Am b) (map (λ c. CallsIt c) cs ++ xs) ≡ news_by b cs ++ all_news (Am d) xs
+  given_are : all_given l (Am b) (map (λ c. CallsIt c) cs ++ xs) ≡ given_by b cs ++ all_given l (Am d) xs
+  raised_are : all_raised l (Am b) (map (λ c. CallsIt c) cs ++ xs) ≡ raised_by b cs ++ all_raised l (Am d) xs
+  confirmed_are : all_confirmed l (Am b) (map (λ c. CallsIt c) cs ++ xs)
+      ≡ confirmed_by b cs ++ all_confirmed l (Am d) xs
 
 few_so : (bits l : ℕ) (cs : List Call) (b d : State) (xs : List BearerStep) → Turns b cs d → IsSteady bits l b
     → Few bits l cs b d xs
 few_so bits l [] b d xs t h =
-    subst (λ (x : State). Few bits l [] b x xs) (sym t) (record { steady = h; ups_are = refl; news_are = refl })
+    subst (λ (x : State). Few bits l [] b x xs) (sym t)
+    (record {
+      steady = h;
+      ups_are = refl;
+      news_are = refl;
+      given_are = refl;
+      raised_are = refl;
+      confirmed_are = refl;
+    })
 few_so bits l (c ∷ []) b d xs t h =
     subst (λ (x : State). Few bits l (c ∷ []) b x xs) (sym t)
     (record {
@@ -60,6 +115,9 @@ few_so bits l (c ∷ []) b d xs t h =
       ups_are = ap (λ (up : List (List ℕ)). up ++ all_ups l (after (Am b) c) xs) (sym (call_ups l b c h.between))
           ∙ ap (λ (f : Flow). ups_among (tells b c) ++ all_ups l f xs) (is_called b c);
       news_are = ap (λ (f : Flow). news (Am b) c ++ all_news f xs) (is_called b c);
+      given_are = ap (λ (f : Flow). given_in b c ++ all_given l f xs) (is_called b c);
+      raised_are = ap (λ (f : Flow). raised_in b c ++ all_raised l f xs) (is_called b c);
+      confirmed_are = ap (λ (f : Flow). confirmed_in b c ++ all_confirmed l f xs) (is_called b c);
     })
 few_so bits l (c ∷ x ∷ cs) b d xs t h = absurd t
 
@@ -71,6 +129,12 @@ record StepGoes (bits l : ℕ) (side : Side) (p : Pair) (x : LifeStep) (xs : Lis
       ≡ ups_in_at side p x ++ all_ups l (Am (own side (lives_on p x)).bearer) xs
   news_are : all_news (Am (own side p).bearer) (does_at side p x ++ xs)
       ≡ news_in_at side p x ++ all_news (Am (own side (lives_on p x)).bearer) xs
+  given_are : all_given l (Am (own side p).bearer) (does_at side p x ++ xs)
+      ≡ given_in_at side p x ++ all_given l (Am (own side (lives_on p x)).bearer) xs
+  raised_are : all_raised l (Am (own side p).bearer) (does_at side p x ++ xs)
+      ≡ raised_in_at side p x ++ all_raised l (Am (own side (lives_on p x)).bearer) xs
+  confirmed_are : all_confirmed l (Am (own side p).bearer) (does_at side p x ++ xs)
+      ≡ confirmed_in_at side p x ++ all_confirmed l (Am (own side (lives_on p x)).bearer) xs
 
 restart_goes : (bits l : ℕ) (side : Side) (p : Pair) (keys : Keys) (xs : List BearerStep)
     → IsSteady bits l (own side p).bearer → StepGoes bits l side p (Restarts keys) xs
@@ -82,6 +146,9 @@ restart_goes bits l Nb p keys xs h =
       ups_are = ap (λ (f : Flow). ends_up l (Am b) ++ all_ups l f xs) r.left
           ∙ ap (λ (up : List (List ℕ)). up ++ all_ups l (Am (restarts b keys)) xs) (sym (end_ups l b h.between));
       news_are = ap (λ (f : Flow). all_news f xs) r.left;
+      given_are = ap (λ (f : Flow). all_given l f xs) r.left;
+      raised_are = ap (λ (f : Flow). all_raised l f xs) r.left;
+      confirmed_are = ap (λ (f : Flow). all_confirmed l f xs) r.left;
     }
 restart_goes bits l Ue p keys xs h =
     let b = p.far.bearer in
@@ -91,26 +158,55 @@ restart_goes bits l Ue p keys xs h =
       ups_are = ap (λ (f : Flow). ends_up l (Am b) ++ all_ups l f xs) r.left
           ∙ ap (λ (up : List (List ℕ)). up ++ all_ups l (Am (restarts b keys)) xs) (sym (end_ups l b h.between));
       news_are = ap (λ (f : Flow). all_news f xs) r.left;
+      given_are = ap (λ (f : Flow). all_given l f xs) r.left;
+      raised_are = ap (λ (f : Flow). all_raised l f xs) r.left;
+      confirmed_are = ap (λ (f : Flow). all_confirmed l f xs) r.left;
     }
 
 step_goes : (bits l : ℕ) (side : Side) (p : Pair) (x : LifeStep) (xs : List BearerStep)
     → IsSteady bits l (own side p).bearer → StepGoes bits l side p x xs
 step_goes bits l Nb p (InLife s) xs h =
     let few = few_so bits l (near_calls p s) p.near.bearer (happens p s).near.bearer xs (near_turns p s) h in
-    record { steady = few.steady; ups_are = few.ups_are; news_are = few.news_are }
+    record {
+      steady = few.steady;
+      ups_are = few.ups_are;
+      news_are = few.news_are;
+      given_are = few.given_are;
+      raised_are = few.raised_are;
+      confirmed_are = few.confirmed_are;
+    }
 step_goes bits l Ue p (InLife s) xs h =
     let few = few_so bits l (far_calls p s) p.far.bearer (happens p s).far.bearer xs (far_turns p s) h in
-    record { steady = few.steady; ups_are = few.ups_are; news_are = few.news_are }
+    record {
+      steady = few.steady;
+      ups_are = few.ups_are;
+      news_are = few.news_are;
+      given_are = few.given_are;
+      raised_are = few.raised_are;
+      confirmed_are = few.confirmed_are;
+    }
 step_goes bits l side p (Restarts keys) xs h = restart_goes bits l side p keys xs h
 
 pub record LivesGo (bits l : ℕ) (side : Side) (p : Pair) (xs : List LifeStep) : Type 0 where
   pub steady : IsSteady bits l (own side (lives xs p)).bearer
   pub ups_are : over (ups_in_at side) xs p ≡ all_ups l (Am (own side p).bearer) (all_does side xs p)
   pub news_are : over (news_in_at side) xs p ≡ all_news (Am (own side p).bearer) (all_does side xs p)
+  pub given_are : over (given_in_at side) xs p ≡ all_given l (Am (own side p).bearer) (all_does side xs p)
+  pub raised_are : over (raised_in_at side) xs p ≡ all_raised l (Am (own side p).bearer) (all_does side xs p)
+  pub confirmed_are : over (confirmed_in_at side) xs p
+      ≡ all_confirmed l (Am (own side p).bearer) (all_does side xs p)
 
 pub lives_go : (bits l : ℕ) (side : Side) (xs : List LifeStep) (p : Pair) → IsSteady bits l (own side p).bearer
     → LivesGo bits l side p xs
-lives_go bits l side [] p h = record { steady = h; ups_are = refl; news_are = refl }
+lives_go bits l side [] p h =
+    record {
+      steady = h;
+      ups_are = refl;
+      news_are = refl;
+      given_are = refl;
+      raised_are = refl;
+      confirmed_are = refl;
+    }
 lives_go bits l side (x ∷ xs) p h =
     let q : Pair = lives_on p x in
     let one = step_goes bits l side p x (all_does side xs q) h in
@@ -119,6 +215,11 @@ lives_go bits l side (x ∷ xs) p h =
       steady = rest.steady;
       ups_are = ap (λ (up : List (List ℕ)). ups_in_at side p x ++ up) rest.ups_are ∙ sym one.ups_are;
       news_are = ap (λ (taken : List (List ℕ)). news_in_at side p x ++ taken) rest.news_are ∙ sym one.news_are;
+      given_are = ap (λ (given : List (List ℕ)). given_in_at side p x ++ given) rest.given_are ∙ sym one.given_are;
+      raised_are = ap (λ (raised : List (List ℕ)). raised_in_at side p x ++ raised) rest.raised_are
+          ∙ sym one.raised_are;
+      confirmed_are = ap (λ (news : List ℕ). confirmed_in_at side p x ++ news) rest.confirmed_are
+          ∙ sym one.confirmed_are;
     }
 
 -- ---- one behind the other

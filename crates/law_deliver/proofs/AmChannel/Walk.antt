@@ -29,7 +29,9 @@ use Rattle.law_deliver.specs.AmDelivery.Lives.{lives_on as pair_lives_on, AreLiv
 use Rattle.law_deliver.specs.AmChannel.Lives.{AirStep, InLife, Moves, lives_on, IsLiving, AreLiving, end_at, calls_by}
 use Rattle.law_deliver.specs.AmChannel.Lives.{calls_at, all_calls}
 use Rattle.law_deliver.specs.AmChannel.Delivery.{steps_over}
-use Rattle.law_deliver.proofs.AmChannel.Acting.{AreAccepted, in_life_all, lives_in, near_living, far_living, as_steps}
+use Rattle.law_deliver.proofs.AmDelivery.Lasting.{IsOfLife}
+use Rattle.law_deliver.proofs.AmChannel.Acting.{AreAccepted, in_life_all, all_of_life, lives_in, near_living}
+use Rattle.law_deliver.proofs.AmChannel.Acting.{far_living, as_steps}
 use Rattle.law_deliver.proofs.AmChannel.Acting.{near_does, far_does, near_rests, far_rests, act_steps, act_accepted}
 use Rattle.law_deliver.proofs.AmChannel.Bearers.{IsSteady, restarts_steady}
 use Rattle.law_deliver.proofs.AmChannel.Ends.{step_end, steps_more, IsCall, step_so}
@@ -48,15 +50,20 @@ pub record BothMatch (bits l : ℕ) (a : Air) (p : Pair) : Type 0 where
 
 -- ---- one step
 
-record Walks (bits l : ℕ) (a : Air) (x : AirStep) (p : Pair) : Type 0 where
-  steps : List LifeStep
-  living : AreLivingPair p steps
-  nb : Matches Nb l (lives_on a x).nb (pair_lives steps p).near
-  ue : Matches Ue l (lives_on a x).ue (pair_lives steps p).far
-  nb_does : all_does Nb steps p ≡ steps_over l (calls_at Nb a x) a.nb.end
-  ue_does : all_does Ue steps p ≡ steps_over l (calls_at Ue a x) a.ue.end
-  down_is : over down_in steps p ≡ happens_in bits l Nb a x
-  up_is : over up_in steps p ≡ happens_in bits l Ue a x
+abbrev pub IsInLife : AirStep → Type 0
+IsInLife (InLife s) = Unit {0}
+IsInLife (Moves keys) = ⊥
+
+pub record Walks (bits l : ℕ) (a : Air) (x : AirStep) (p : Pair) : Type 0 where
+  pub steps : List LifeStep
+  pub living : AreLivingPair p steps
+  pub of_life : IsInLife x → AllByRecursion IsOfLife steps
+  pub nb : Matches Nb l (lives_on a x).nb (pair_lives steps p).near
+  pub ue : Matches Ue l (lives_on a x).ue (pair_lives steps p).far
+  pub nb_does : all_does Nb steps p ≡ steps_over l (calls_at Nb a x) a.nb.end
+  pub ue_does : all_does Ue steps p ≡ steps_over l (calls_at Ue a x) a.ue.end
+  pub down_is : over down_in steps p ≡ happens_in bits l Nb a x
+  pub up_is : over up_in steps p ≡ happens_in bits l Ue a x
 
 walks_nb : (bits l : ℕ) (a : Air) (x : Act) (p : Pair) → IsDone l a.nb x → Matches Nb l a.nb p.near
     → Matches Ue l a.ue p.far → Stands Nb l a.nb.end
@@ -74,6 +81,7 @@ walks_nb bits l a x p g h k stands steady =
           near_living p r.deeds r.done
           (subst (AreAccepted p.near.bearer) (sym r.calls_are)
           (act_accepted l a.ue a.nb x p.near.bearer h.bearer_is));
+      of_life = λ in'. all_of_life (steps_at Nb r.deeds);
       nb = subst (λ (q : Pair). Matches Nb l (does a.ue a.nb x) q.near) (sym same) r.now.matches;
       ue = subst (λ (q : Pair). Matches Ue l a.ue q.far) (sym same) k;
       nb_does = near_does p r.deeds ∙ ap as_steps r.calls_are ∙ sym (act_steps l a.ue a.nb x g);
@@ -101,6 +109,7 @@ walks_ue bits l a x p g h k stands steady =
       living =
           far_living p r.deeds r.done
           (subst (AreAccepted p.far.bearer) (sym r.calls_are) (act_accepted l a.nb a.ue x p.far.bearer k.bearer_is));
+      of_life = λ in'. all_of_life (steps_at Ue r.deeds);
       nb = subst (λ (q : Pair). Matches Nb l a.nb q.near) (sym same) h;
       ue = subst (λ (q : Pair). Matches Ue l (does a.nb a.ue x) q.far) (sym same) r.now.matches;
       nb_does = near_rests p r.deeds;
@@ -137,13 +146,14 @@ moves_match bits side l s n keys h steady =
 
 -- ---- any step
 
-step_walks : (bits l : ℕ) (a : Air) (x : AirStep) (p : Pair) → IsLiving l a x → BothMatch bits l a p
+pub step_walks : (bits l : ℕ) (a : Air) (x : AirStep) (p : Pair) → IsLiving l a x → BothMatch bits l a p
     → Walks bits l a x p
 step_walks bits l a (InLife (AtNb x)) p g h = walks_nb bits l a x p g h.nb h.ue h.nb_stands h.nb_steady
 step_walks bits l a (InLife (AtUe x)) p g h = walks_ue bits l a x p g h.nb h.ue h.ue_stands h.ue_steady
 step_walks bits l a (InLife Passes) p g h = record {
   steps = InPairLife PairPasses ∷ [];
   living = (((young Nb l a.nb p.near h.nb g.0, young Ue l a.ue p.far h.ue g.1), tt), tt);
+  of_life = λ in'. (tt, tt);
   nb = passes Nb l a.nb p.near h.nb;
   ue = passes Ue l a.ue p.far h.ue;
   nb_does = refl;
@@ -154,6 +164,7 @@ step_walks bits l a (InLife Passes) p g h = record {
 step_walks bits l a (Moves keys) p g h = record {
   steps = Restarts keys ∷ [];
   living = (tt, tt);
+  of_life = λ in'. absurd in';
   nb = moves_match bits Nb l a.nb p.near keys h.nb h.nb_steady;
   ue = moves_match bits Ue l a.ue p.far keys h.ue h.ue_steady;
   nb_does = refl;
@@ -217,6 +228,18 @@ stands_on side l a x g s =
     subst (Stands side l) (sym (step_end side a x))
     (calls_stand side l (calls_at side a x) (end_at side a) (step_so l side a x g) s)
 
+-- they match behind the step
+pub matches_on : (bits l : ℕ) (a : Air) (x : AirStep) (p : Pair) → IsLiving l a x → BothMatch bits l a p
+    → (w : Walks bits l a x p) → BothMatch bits l (lives_on a x) (pair_lives w.steps p)
+matches_on bits l a x p g h w = record {
+  nb = w.nb;
+  ue = w.ue;
+  nb_steady = (lives_go bits l Nb w.steps p h.nb_steady).steady;
+  ue_steady = (lives_go bits l Ue w.steps p h.ue_steady).steady;
+  nb_stands = stands_on Nb l a x g h.nb_stands;
+  ue_stands = stands_on Ue l a x g h.ue_stands;
+}
+
 pub walks_on : (bits l : ℕ) (xs : List AirStep) (a : Air) (p : Pair) → AreLiving l a xs → BothMatch bits l a p
     → WalksOn bits l a xs p
 walks_on bits l [] a p g h = record {
@@ -230,14 +253,7 @@ walks_on bits l [] a p g h = record {
 walks_on bits l (x ∷ xs) a p g h =
     let one = step_walks bits l a x p g.0 h in
     let q : Pair = pair_lives one.steps p in
-    let rest = walks_on bits l xs (lives_on a x) q g.1 (record {
-      nb = one.nb;
-      ue = one.ue;
-      nb_steady = (lives_go bits l Nb one.steps p h.nb_steady).steady;
-      ue_steady = (lives_go bits l Ue one.steps p h.ue_steady).steady;
-      nb_stands = stands_on Nb l a x g.0 h.nb_stands;
-      ue_stands = stands_on Ue l a x g.0 h.ue_stands;
-    }) in
+    let rest = walks_on bits l xs (lives_on a x) q g.1 (matches_on bits l a x p g.0 h one) in
     record {
       steps = one.steps ++ rest.steps;
       living = living_more one.steps rest.steps p one.living rest.living;

@@ -11,8 +11,10 @@ use Rattle.rlc_pdu.specs.Reading.{am_at}
 use Rattle.law_rlc.specs.AmReceiver.Run.{Arrive as Hears, state_after}
 use Rattle.law_rlc.specs.AmPair.Flow.{Copy, Flow as Rlc, Step as RlcStep, DataComes, receives, data_read, data_comes}
 use Rattle.law_rlc.specs.AmPair.Flow.{happens as rlc_happens}
-use Rattle.law_rlc.specs.AmPair.Sdus.{offered}
+use Rattle.law_rlc.specs.AmPair.Confirmed.{confirmed}
+use Rattle.law_rlc.specs.AmPair.Sdus.{offered, handed_up}
 use Rattle.law_rlc.specs.AmPair.Arrives.{arrives}
+use Rattle.law_rlc.proofs.AmPair.Confirming.{step-confirms}
 use Rattle.law_rlc.proofs.AmPair.Sound.{IsSound}
 use Rattle.law_rlc.proofs.AmPair.Laws.{sound, happens-sound}
 use Rattle.law_rlc.proofs.AmPair.ByPlace.{arrived-offered}
@@ -70,7 +72,7 @@ data_is f k c pdu at read = ap (λ (o : Option Copy). data_comes f o) at
 
 pub data_arrives : (w : Way) (k : ℕ) (c : Copy) (pdu : AmdPdu) (a : Standing) → IsWay w
     → slice_get (rlc w).copies k ≡ Some c → am_at c.octets ≡ Ok (Payload pdu) → MeetsNow w a
-    → Extends w (record a { rx = state_after a.rx (Hears pdu) }) [] (Passes (Comes c.octets) ∷ [])
+    → Extends w (record a { rx = state_after a.rx (Hears pdu) }) [] (Passes (Comes c.octets) ∷ []) [] []
 data_arrives w k c pdu a h at read m =
     let f : Rlc = rlc w in
     let g : Pdcp = pdcp w in
@@ -117,6 +119,8 @@ data_arrives w k c pdu a h at read m =
           (tells_passing (Comes c.octets ∷ []) g (run_am_pdcp (arrivals (arrives f') n) g) (told_of w)
           (ap (λ (x : Pdcp). x.stream) come.same) (ap (λ (x : Pdcp). x.passed) come.same)
           (λ count. ap (λ (x : Pdcp). x.handed count) come.same) b l);
+      handed_is = (goes-up f).stays step tt refl ∙ sym (append-nil (handed_up f));
+      confirmed_is = step-confirms f step tt ∙ sym (append-nil (confirmed f));
     }
   where
     whole_too : (p n : ℕ) (now before : Bool) → (now ≡ true → p < n) → (before ≡ true → now ≡ true)

@@ -26,6 +26,7 @@ use Rattle.law_deliver.specs.AmDelivery.Arrival.{said_in, heard_in}
 use Rattle.law_deliver.specs.Accepted.{IsAccepted}
 use Rattle.law_deliver.proofs.AmDelivery.Joined.{Way}
 use Rattle.law_deliver.proofs.AmDelivery.Ends.{JoinedEnds, EndsGoOn}
+use Rattle.law_deliver.proofs.AmDelivery.Lasting.{given_in, raised_in}
 use Rattle.law_deliver.proofs.AmDelivery.Timers.{IsOwn, AreOwn, own_all, asks_go_on, with_bearer}
 use Rattle.law_deliver.proofs.AmDelivery.Taking.{takes_go_on}
 
@@ -94,17 +95,17 @@ called_as bits out inn e o c h =
     ap (acknowledged e.bearer) (sym (calls_are_deeds bits e.bearer c h.of_data h.idle).left)
 
 writes_none : (bits : ℕ) (out inn : Way) (e o : BearerEnd) (c : Call) → JoinedEnds bits out inn e o
-    → EndsGoOn bits out inn (with_bearer (deeds_of e.bearer c) e) o [] [] [] []
-    → EndsGoOn bits out inn (record e { bearer = called e.bearer c; busy = e.busy || false }) o [] [] [] []
+    → EndsGoOn bits out inn (with_bearer (deeds_of e.bearer c) e) o [] [] [] [] [] []
+    → EndsGoOn bits out inn (record e { bearer = called e.bearer c; busy = e.busy || false }) o [] [] [] [] [] []
 writes_none bits out inn e o c h m =
     subst (λ (busy : Bool). EndsGoOn bits out inn (record e { bearer = called e.bearer c; busy = busy }) o [] [] []
-    []) (or_none e.busy)
-    (subst (λ (b : State). EndsGoOn bits out inn (record e { bearer = b }) o [] [] [] [])
+    [] [] []) (or_none e.busy)
+    (subst (λ (b : State). EndsGoOn bits out inn (record e { bearer = b }) o [] [] [] [] [] [])
     (called_as bits out inn e o c h) m)
 
 submits_go_on : (bits : ℕ) (out inn : Way) (e o : BearerEnd) (sdu : List ℕ) → JoinedEnds bits out inn e o
     → IsAccepted e.bearer.pdcp.tx (Submit sdu)
-    → EndsGoOn bits out inn (calls e (Submit sdu)) o [] [] [] []
+    → EndsGoOn bits out inn (calls e (Submit sdu)) o [] [] [] [] [] []
 submits_go_on bits out inn e o sdu h ok =
     writes_none bits out inn e o (Submit sdu) h
     (asks_go_on bits out inn e o (SubmitPdcp sdu) h (ap (λ (s : Sending). refusal s sdu) h.out_joins.sender_is
@@ -112,7 +113,7 @@ submits_go_on bits out inn e o sdu h ok =
 
 own_go_on : (bits : ℕ) (out inn : Way) (e o : BearerEnd) (c : Call) → JoinedEnds bits out inn e o
     → AreOwn (deeds_of e.bearer c)
-    → EndsGoOn bits out inn (record e { bearer = called e.bearer c; busy = e.busy || false }) o [] [] [] []
+    → EndsGoOn bits out inn (record e { bearer = called e.bearer c; busy = e.busy || false }) o [] [] [] [] [] []
 own_go_on bits out inn e o c h own =
     writes_none bits out inn e o c h (own_all bits out inn e o (deeds_of e.bearer c) h own)
 
@@ -121,6 +122,7 @@ own_go_on bits out inn e o c h own =
 calls_on : (bits : ℕ) (out inn : Way) (e o : BearerEnd) (c : Call) → JoinedEnds bits out inn e o → IsCalling e c
     → IsAccepted e.bearer.pdcp.tx c
     → EndsGoOn bits out inn (calls e c) o (news (Am e.bearer) c) [] (said_in e.bearer c) (heard_in c)
+    (given_in e.bearer c) (raised_in e.bearer c)
 calls_on bits out inn e o (Submit sdu) h g ok = submits_go_on bits out inn e o sdu h ok
 calls_on bits out inn e o (Take share held) h g ok = takes_go_on bits out inn e o share held h g
 calls_on bits out inn e o (Arrive pdu) h g ok = absurd g
@@ -132,7 +134,8 @@ calls_on bits out inn e o (SetDiscard ttis) h g ok = own_go_on bits out inn e o 
 pub calls_go_on : (bits : ℕ) (out inn : Way) (e o : BearerEnd) (c : Call) → JoinedEnds bits out inn e o
     → IsCalling e c → IsAccepted e.bearer.pdcp.tx c
     → EndsGoOn bits out inn (calls e c) o (news (Am e.bearer) c) (ups_among (tells e.bearer c)) (said_in e.bearer c)
-    (heard_in c)
+    (heard_in c) (given_in e.bearer c) (raised_in e.bearer c)
 calls_go_on bits out inn e o c h g ok =
     subst (λ (ups : List (List ℕ)). EndsGoOn bits out inn (calls e c) o (news (Am e.bearer) c) ups
-    (said_in e.bearer c) (heard_in c)) (none_up bits out inn e o c h g) (calls_on bits out inn e o c h g ok)
+    (said_in e.bearer c) (heard_in c) (given_in e.bearer c) (raised_in e.bearer c)) (none_up bits out inn e o c h g)
+    (calls_on bits out inn e o c h g ok)

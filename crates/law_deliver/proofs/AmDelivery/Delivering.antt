@@ -2,6 +2,7 @@
 use Rattle.std.proofs.Common.{◌≡◌, ℕ, ◌-◌, List, [], ◌∷◌, ◌++◌, take, drop, append_assoc, append-nil, subst, refl, ap}
 use Rattle.std.proofs.Common.{sym, ◌∙◌}
 use Rattle.std.proofs.lemmas.List.{take-append-drop}
+use Rattle.std.specs.List.{AllByRecursion}
 use Rattle.bearer.specs.Acknowledged.State.{State}
 use Rattle.bearer_types.specs.declared.BearerConfig.{BearerConfig}
 use Rattle.eps_sec.specs.declared.Keys.{Keys}
@@ -23,6 +24,9 @@ use Rattle.law_deliver.proofs.AmDelivery.Accounts.{told_of, Agrees, tells_then}
 use Rattle.law_deliver.proofs.AmDelivery.Arrived.{is_what_came}
 use Rattle.law_deliver.proofs.AmDelivery.Beginning.{first_way, begins_joined}
 use Rattle.law_deliver.proofs.AmDelivery.Joined.{Way, IsWay, Joins, JoinedPair, pdcp}
+use Rattle.law_deliver.proofs.AmDelivery.Lasting.{Lasts, lasts_so, lasts_then, IsOfLife, near_given_in}
+use Rattle.law_deliver.proofs.AmDelivery.Lasting.{far_given_in, near_raised_in, far_raised_in, near_confirmed_in}
+use Rattle.law_deliver.proofs.AmDelivery.Lasting.{far_confirmed_in}
 use Rattle.law_deliver.proofs.AmDelivery.Promises.{GoesOn, BothGoOn, StepsGoOn}
 use Rattle.law_deliver.proofs.AmDelivery.Restarting.{restarts_go_on}
 
@@ -64,11 +68,22 @@ pub record AllGoOn (bits : ℕ) (down up : Way) (p : Pair) (xs : List LifeStep) 
   pub joined : JoinedPair bits down_after up_after (lives xs p)
   pub down_goes : GoesOn down down_after (over near_news_in xs p) (over far_ups_in xs p) (over down_in xs p)
   pub up_goes : GoesOn up up_after (over far_news_in xs p) (over near_ups_in xs p) (over up_in xs p)
+  pub down_lasts : AllByRecursion IsOfLife xs
+      → Lasts down down_after (over near_given_in xs p) (over far_raised_in xs p) (over near_confirmed_in xs p)
+  pub up_lasts : AllByRecursion IsOfLife xs
+      → Lasts up up_after (over far_given_in xs p) (over near_raised_in xs p) (over far_confirmed_in xs p)
 
-all_go : StepsGoOn → (xs : List LifeStep) (bits : ℕ) (down up : Way) (p : Pair) → AreLiving p xs
+pub all_go : StepsGoOn → (xs : List LifeStep) (bits : ℕ) (down up : Way) (p : Pair) → AreLiving p xs
     → JoinedPair bits down up p → AllGoOn bits down up p xs
-all_go steps [] bits down up p given h =
-    record { down_after = down; up_after = up; joined = h; down_goes = stays down; up_goes = stays up }
+all_go steps [] bits down up p given h = record {
+  down_after = down;
+  up_after = up;
+  joined = h;
+  down_goes = stays down;
+  up_goes = stays up;
+  down_lasts = λ in'. lasts_so down;
+  up_lasts = λ in'. lasts_so up;
+}
 all_go steps (x ∷ xs) bits down up p given h =
     let one = goes_once steps bits down up p x given.0 h in
     let q = lives_on p x in
@@ -82,6 +97,14 @@ all_go steps (x ∷ xs) bits down up p given h =
           rest.down_goes;
       up_goes = goes_further up one.up_after rest.up_after
           (far_news_in p x) (over far_news_in xs q) (near_ups_in p x) (over near_ups_in xs q) one.up_goes rest.up_goes;
+      down_lasts = λ in'.
+          lasts_then down one.down_after rest.down_after (near_given_in p x) (over near_given_in xs q)
+          (far_raised_in p x) (over far_raised_in xs q) (near_confirmed_in p x) (over near_confirmed_in xs q)
+          (one.down_lasts in'.0) (rest.down_lasts in'.1);
+      up_lasts = λ in'.
+          lasts_then up one.up_after rest.up_after (far_given_in p x) (over far_given_in xs q)
+          (near_raised_in p x) (over near_raised_in xs q) (far_confirmed_in p x) (over far_confirmed_in xs q)
+          (one.up_lasts in'.0) (rest.up_lasts in'.1);
     }
 
 pub from_the_first : StepsGoOn → (c : BearerConfig) (keys : Keys) (nb ue : State) (xs : List LifeStep)

@@ -1,15 +1,17 @@
 -- Where one of the ways goes on by what an end does, both ends are joined as before.
-use Rattle.std.proofs.Common.{◌≡◌, ℕ, List, [], ◌++◌, Option, Some, refl, ap, sym, subst, ◌∙◌}
+use Rattle.std.proofs.Common.{◌≡◌, ℕ, List, [], ◌++◌, Option, Some, append-nil, refl, ap, sym, subst, ◌∙◌}
 use Rattle.std.specs.List.{AllByRecursion}
 use Rattle.law_bearer.specs.AmBearer.Calls.{IsOfData, IsIdle}
 use Rattle.law_rlc.specs.AmPair.Flow.{Step as RlcStep}
+use Rattle.law_rlc.specs.AmPair.Sdus.{offered}
 use Rattle.law_words.specs.Arrivals.{AccountEntry}
 use Rattle.law_pdcp.specs.AmPair.Flow.{Flow as Pdcp, Event, run_am_pdcp}
 use Rattle.law_deliver.specs.AmFlow.Pair.{BearerEnd}
-use Rattle.law_deliver.proofs.AmDelivery.Joined.{Way, Joins, IsReportOf, Reports, pdcp}
+use Rattle.law_deliver.proofs.AmDelivery.Joined.{Way, Joins, IsReportOf, Reports, rlc, pdcp}
 use Rattle.law_deliver.proofs.AmDelivery.Ways.{with_more}
 use Rattle.law_deliver.proofs.AmDelivery.Ends.{JoinedEnds, EndsGoOn}
-use Rattle.law_deliver.proofs.AmDelivery.Moving.{Moves, HasMoved, moves_on, stays_so, goes_then}
+use Rattle.law_deliver.proofs.AmDelivery.Lasting.{lasts_so, lasts_then, none_given}
+use Rattle.law_deliver.proofs.AmDelivery.Moving.{Moves, HasMoved, moves_on, moves_last, all_offers, stays_so, goes_then}
 
 -- ---- an end of which one side is as it was
 
@@ -83,7 +85,7 @@ pub out_goes_on : (bits : ℕ) (out inn : Way) (e o d : BearerEnd) (xs : List Ev
     (news : List (List ℕ)) (said : List AccountEntry)
     → JoinedEnds bits out inn e o → Moves out xs ss d o news [] said → HearsAlike e d → IsBetween bits d
     → (run_am_pdcp xs (pdcp out)).report ≡ (pdcp out).report → Tells (pdcp inn).report (run_am_pdcp xs (pdcp out))
-    → EndsGoOn bits out inn d o news [] said []
+    → EndsGoOn bits out inn d o news [] said [] (all_offers ss) []
 out_goes_on bits out inn e o d xs ss news said h moves alike between report told =
     let v = with_more xs ss out in
     let m : HasMoved out v xs d o news [] said = moves_on out xs ss d o news [] said h.out_is moves in
@@ -107,15 +109,18 @@ out_goes_on bits out inn e o d xs ss news said h moves alike between report told
       };
       out_goes = m.goes;
       inn_goes = stays_so inn;
+      out_lasts = moves_last out xs ss d o news [] said h.out_is moves;
+      inn_lasts = lasts_so inn;
     }
 
 -- by a step of RLC alone
 pub inn_goes_on : (bits : ℕ) (out inn : Way) (e o d : BearerEnd) (ss : List RlcStep)
     → JoinedEnds bits out inn e o → Moves inn [] ss o d [] [] [] → SendsAlike e d → IsBetween bits d
-    → EndsGoOn bits out inn d o [] [] [] []
+    → EndsGoOn bits out inn d o [] [] [] [] [] []
 inn_goes_on bits out inn e o d ss h moves alike between =
     let v = with_more [] ss inn in
     let m : HasMoved inn v [] o d [] [] [] = moves_on inn [] ss o d [] [] [] h.inn_is moves in
+    let lasts = moves_last inn [] ss o d [] [] [] h.inn_is moves in
     record {
       out_after = out;
       inn_after = v;
@@ -137,23 +142,42 @@ inn_goes_on bits out inn e o d ss h moves alike between =
       };
       out_goes = stays_so out;
       inn_goes = m.goes;
+      out_lasts = lasts_so out;
+      inn_lasts = record {
+        offered_is = none_given inn v h.inn_joins.stream_is m.joins.stream_is
+            (ap (λ (g : Pdcp). g.stream) m.pdcp_is)
+            ∙ sym (append-nil (offered (rlc inn)));
+        handed_is = lasts.handed_is;
+        confirmed_is = lasts.confirmed_is;
+      };
     }
 
 -- ---- one behind the other
 
 pub stays_joined : (bits : ℕ) (out inn : Way) (e o : BearerEnd) → JoinedEnds bits out inn e o
-    → EndsGoOn bits out inn e o [] [] [] []
-stays_joined bits out inn e o h =
-    record { out_after = out; inn_after = inn; joined = h; out_goes = stays_so out; inn_goes = stays_so inn }
+    → EndsGoOn bits out inn e o [] [] [] [] [] []
+stays_joined bits out inn e o h = record {
+  out_after = out;
+  inn_after = inn;
+  joined = h;
+  out_goes = stays_so out;
+  inn_goes = stays_so inn;
+  out_lasts = lasts_so out;
+  inn_lasts = lasts_so inn;
+}
 
-pub ends_then : {a b x y : List AccountEntry} (bits : ℕ) (out inn : Way) (e o d p : BearerEnd)
-    (news more ups later : List (List ℕ)) (m : EndsGoOn bits out inn e o news ups a x)
-    → EndsGoOn bits m.out_after m.inn_after d p more later b y
-    → EndsGoOn bits out inn d p (news ++ more) (ups ++ later) (a ++ b) (x ++ y)
-ends_then bits out inn e o d p news more ups later m n = record {
+-- where nothing is heard
+pub ends_then : {a b : List AccountEntry} (bits : ℕ) (out inn : Way) (e o d p : BearerEnd)
+    (news more ups later given next raised last : List (List ℕ))
+    (m : EndsGoOn bits out inn e o news ups a [] given raised)
+    → EndsGoOn bits m.out_after m.inn_after d p more later b [] next last
+    → EndsGoOn bits out inn d p (news ++ more) (ups ++ later) (a ++ b) [] (given ++ next) (raised ++ last)
+ends_then bits out inn e o d p news more ups later given next raised last m n = record {
   out_after = n.out_after;
   inn_after = n.inn_after;
   joined = n.joined;
   out_goes = goes_then out m.out_after n.out_after news more [] [] m.out_goes n.out_goes;
   inn_goes = goes_then inn m.inn_after n.inn_after [] [] ups later m.inn_goes n.inn_goes;
+  out_lasts = lasts_then out m.out_after n.out_after given next [] [] [] [] m.out_lasts n.out_lasts;
+  inn_lasts = lasts_then inn m.inn_after n.inn_after [] [] raised last [] [] m.inn_lasts n.inn_lasts;
 }

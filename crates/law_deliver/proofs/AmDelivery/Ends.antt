@@ -1,9 +1,11 @@
 -- Both directions from the end that acts: what it sends on goes out, what it hears comes in.
 use Rattle.std.specs.Prelude.{◌≡◌, ℕ, List, []}
+use Rattle.law_rlc.specs.AmPair.Flow.{sender}
 use Rattle.law_words.specs.Arrivals.{AccountEntry}
 use Rattle.law_bearer.specs.AmBearer.Calls.{IsOfData, IsIdle}
 use Rattle.law_deliver.specs.AmFlow.Pair.{BearerEnd, Pair}
-use Rattle.law_deliver.proofs.AmDelivery.Joined.{Way, IsWay, Joins, Reports, JoinedPair}
+use Rattle.law_deliver.proofs.AmDelivery.Joined.{Way, IsWay, Joins, Reports, JoinedPair, rlc}
+use Rattle.law_deliver.proofs.AmDelivery.Lasting.{Lasts, confirmed_as_heard}
 use Rattle.law_deliver.proofs.AmDelivery.Promises.{GoesOn}
 
 -- an end and the other, with the way from it and the way to it
@@ -22,14 +24,17 @@ pub record JoinedEnds (bits : ℕ) (out inn : Way) (e o : BearerEnd) : Type 0 wh
   pub other_idle : IsIdle o.bearer
 
 -- both ends as an end has acted: it took these SDUs for the first time, and these went up there; so much is told of
--- what it sent and heard
+-- what it sent and heard; its RLC was given these, handed these up and confirmed
+-- what it heard of
 pub record EndsGoOn (bits : ℕ) (out inn : Way) (e o : BearerEnd) (news ups : List (List ℕ))
-    (said heard : List AccountEntry) : Type 0 where
+    (said heard : List AccountEntry) (given raised : List (List ℕ)) : Type 0 where
   pub out_after : Way
   pub inn_after : Way
   pub joined : JoinedEnds bits out_after inn_after e o
   pub out_goes : GoesOn out out_after news [] said
   pub inn_goes : GoesOn inn inn_after [] ups heard
+  pub out_lasts : Lasts out out_after given [] (confirmed_as_heard heard (sender (rlc out)).state)
+  pub inn_lasts : Lasts inn inn_after [] raised []
 
 -- ---- a pair, from each end
 

@@ -7,6 +7,7 @@ use Rattle.pdcp_rx.specs.State.{State as Receiving, arrived}
 use Rattle.rlc_am_rx.specs.State.{State as Receiver}
 use Rattle.law_rlc.specs.AmReceiver.Run.{Up, state_after}
 use Rattle.law_rlc.specs.AmPair.Flow.{Flow as Rlc, Step as RlcStep, Receives, happens as rlc_happens}
+use Rattle.law_rlc.specs.AmPair.Confirmed.{confirmed}
 use Rattle.law_rlc.specs.AmPair.Sdus.{offered, handed_up, ready}
 use Rattle.law_rlc.specs.AmPair.Arrives.{arrives, IsWholeAt, HasReady}
 use Rattle.law_rlc.proofs.AmPair.Sound.{IsSound}
@@ -96,7 +97,7 @@ pub goes_up_one : (w : Way) (a : Standing) (sdu : List ℕ) (sdus : List (List �
     → a.rx.out.ready ≡ sdu ∷ sdus → IsNext w sdu
     → MeetsNow w a
     → Extends w (record a { rx = state_after a.rx Up; receiving = all_raised (arrived a.receiving sdu Arrived) })
-    (arrived a.receiving sdu Arrived).ready []
+    (arrived a.receiving sdu Arrived).ready [] (sdu ∷ []) []
 goes_up_one w a sdu sdus h q next m =
     let f : Rlc = rlc w in
     let g : Pdcp = pdcp w in
@@ -136,4 +137,6 @@ goes_up_one w a sdu sdus h q next m =
       tells = tells_handed g (run_am_pdcp (HandUp ∷ raises v.ready) g) next.pdu (told_of w) next.at
           (ap (λ (x : Pdcp). x.stream) same) (ap (λ (x : Pdcp). x.passed) same)
           (λ count. ap (λ (x : Pdcp). x.handed count) same);
+      handed_is = gone;
+      confirmed_is = sym (append-nil (confirmed f));
     }

@@ -15,7 +15,7 @@ use Rattle.law_deliver.proofs.AmDelivery.Joined.{Way, IsWay, Joins, JoinedPair, 
 use Rattle.law_deliver.proofs.AmDelivery.Ways.{with_more}
 use Rattle.law_deliver.proofs.AmDelivery.Promises.{BothGoOn}
 use Rattle.law_deliver.proofs.AmDelivery.Ends.{JoinedEnds, EndsGoOn}
-use Rattle.law_deliver.proofs.AmDelivery.Moving.{Moves, HasMoved, moves_on, rlc_moves}
+use Rattle.law_deliver.proofs.AmDelivery.Moving.{Moves, HasMoved, moves_on, moves_last, rlc_moves}
 use Rattle.law_deliver.proofs.AmDelivery.Doing.{tells, reports_so, IsBetween, out_goes_on, inn_goes_on}
 
 -- ---- an end lets go of something
@@ -26,7 +26,7 @@ between bits out inn e o d h q =
     record { of_data = subst (IsOfData bits) (sym q) h.of_data; idle = subst IsIdle (sym q) h.idle }
 
 pub data_goes : (bits : ℕ) (out inn : Way) (e o : BearerEnd) (k : ℕ) → JoinedEnds bits out inn e o
-    → EndsGoOn bits out inn (record e { copies = except k e.copies }) o [] [] [] []
+    → EndsGoOn bits out inn (record e { copies = except k e.copies }) o [] [] [] [] [] []
 data_goes bits out inn e o k h =
     let d : BearerEnd = record e { copies = except k e.copies } in
     let f = h.out_joins.rlc_is in
@@ -38,13 +38,13 @@ data_goes bits out inn e o k h =
       busy_is = f.busy_is;
     } in
     out_goes_on bits out inn e o d [] (LetsDataGo k ∷ []) [] [] h
-    (rlc_moves out (LetsDataGo k) e o d o h.out_is h.out_joins tt (record { stays = refl; none = refl }) refl flow
-    refl refl)
+    (rlc_moves out (LetsDataGo k) e o d o h.out_is h.out_joins tt
+    (record { stays = refl; none = refl; silent = tt }) refl flow refl refl)
     (record { rx = refl; reports = refl; pdcp = refl }) (between bits out inn e o d h refl) refl
     (tells inn out h.inn_reports)
 
 pub status_goes : (bits : ℕ) (out inn : Way) (e o : BearerEnd) (k : ℕ) → JoinedEnds bits out inn e o
-    → EndsGoOn bits out inn (record e { reports = except k e.reports }) o [] [] [] []
+    → EndsGoOn bits out inn (record e { reports = except k e.reports }) o [] [] [] [] [] []
 status_goes bits out inn e o k h =
     let d : BearerEnd = record e { reports = except k e.reports } in
     let f = h.inn_joins.rlc_is in
@@ -56,8 +56,8 @@ status_goes bits out inn e o k h =
       busy_is = f.busy_is;
     } in
     inn_goes_on bits out inn e o d (LetsStatusGo k ∷ []) h
-    (rlc_moves inn (LetsStatusGo k) o e o d h.inn_is h.inn_joins tt (record { stays = refl; none = refl }) refl flow
-    refl refl)
+    (rlc_moves inn (LetsStatusGo k) o e o d h.inn_is h.inn_joins tt
+    (record { stays = refl; none = refl; silent = tt }) refl flow refl refl)
     (record { tx = refl; copies = refl; busy = refl; pdcp = refl }) (between bits out inn e o d h refl)
 
 -- ---- a TTI ends, at both ends
@@ -75,19 +75,19 @@ passes_move w e o h joins young =
     } in
     rlc_moves w TtiPasses e o (passed e) (passed o) h joins
     (subst (λ (l : List Report). AllByRecursion IsYoung l) (sym f.reports_are) young)
-    (record { stays = refl; none = refl }) refl flow refl refl
+    (record { stays = refl; none = refl; silent = tt }) refl flow refl refl
 
 pub passes_go_on : (bits : ℕ) (down up : Way) (p : Pair) → JoinedPair bits down up p → IsGiven p Passes
     → BothGoOn bits down up p (InLife Passes)
 passes_go_on bits down up p h g =
     let v = with_more [] (TtiPasses ∷ []) down in
     let u = with_more [] (TtiPasses ∷ []) up in
+    let there = passes_move down p.near p.far h.down_is h.down_joins g.1 in
+    let back = passes_move up p.far p.near h.up_is h.up_joins g.0 in
     let m : HasMoved down v [] (passed p.near) (passed p.far) [] [] [] =
-    moves_on down [] (TtiPasses ∷ []) (passed p.near) (passed p.far) [] [] [] h.down_is
-    (passes_move down p.near p.far h.down_is h.down_joins g.1) in
+    moves_on down [] (TtiPasses ∷ []) (passed p.near) (passed p.far) [] [] [] h.down_is there in
     let n : HasMoved up u [] (passed p.far) (passed p.near) [] [] [] =
-    moves_on up [] (TtiPasses ∷ []) (passed p.far) (passed p.near) [] [] [] h.up_is
-    (passes_move up p.far p.near h.up_is h.up_joins g.0) in
+    moves_on up [] (TtiPasses ∷ []) (passed p.far) (passed p.near) [] [] [] h.up_is back in
     record {
       down_after = v;
       up_after = u;
@@ -110,4 +110,6 @@ passes_go_on bits down up p h g =
       };
       down_goes = m.goes;
       up_goes = n.goes;
+      down_lasts = λ in'. moves_last down [] (TtiPasses ∷ []) (passed p.near) (passed p.far) [] [] [] h.down_is there;
+      up_lasts = λ in'. moves_last up [] (TtiPasses ∷ []) (passed p.far) (passed p.near) [] [] [] h.up_is back;
     }

@@ -9,6 +9,7 @@ use Rattle.rlc_am_tx.specs.Machine.{State as Sender}
 use Rattle.rlc_am_rx.specs.State.{State as Receiver}
 use Rattle.law_rlc.specs.AmPair.Flow.{Copy, Report, Flow as Rlc, Step as RlcStep, goes as rlc_goes}
 use Rattle.law_rlc.specs.AmPair.Given.{AreGiven as AreGivenSteps}
+use Rattle.law_rlc.specs.AmPair.Confirmed.{confirmed}
 use Rattle.law_rlc.specs.AmPair.Sdus.{offered, handed_up}
 use Rattle.law_rlc.specs.AmPair.Arrives.{arrives}
 use Rattle.law_pdcp.specs.AmPair.Flow.{Flow as Pdcp, Event, run_am_pdcp, AreGiven as AreGivenEvents}
@@ -88,7 +89,8 @@ pub none_changes : (g : Pdcp) → Stays g g
 none_changes g = record { sdus = refl; stream = refl; report = refl; owed = refl }
 
 -- by events and steps
-pub record Extends (w : Way) (a : Standing) (ups : List (List ℕ)) (told : List AccountEntry) : Type 0 where
+pub record Extends (w : Way) (a : Standing) (ups : List (List ℕ)) (told : List AccountEntry)
+    (raised : List (List ℕ)) (news : List ℕ) : Type 0 where
   pub events : List Event
   pub steps : List RlcStep
   pub events_given : AreGivenEvents (pdcp w) events
@@ -98,9 +100,12 @@ pub record Extends (w : Way) (a : Standing) (ups : List (List ℕ)) (told : List
   pub ups_are : (run_am_pdcp events (pdcp w)).up ≡ (pdcp w).up ++ ups
   pub tells : TellsOn told (pdcp w) (told_of w) (run_am_pdcp events (pdcp w))
       (with_passings (passed steps (rlc w)) (told_of w))
+  -- what RLC hands up, and what it newly confirms
+  pub handed_is : handed_up (rlc_goes steps (rlc w)) ≡ handed_up (rlc w) ++ raised
+  pub confirmed_is : confirmed (rlc_goes steps (rlc w)) ≡ confirmed (rlc w) ++ news
 
 -- nothing happens
-pub rests : (w : Way) (a : Standing) → MeetsNow w a → Extends w a [] []
+pub rests : (w : Way) (a : Standing) → MeetsNow w a → Extends w a [] [] [] []
 rests w a h = record {
   events = [];
   steps = [];
@@ -110,20 +115,26 @@ rests w a h = record {
   stays = none_changes (pdcp w);
   ups_are = sym (append-nil (pdcp w).up);
   tells = λ b k. k;
+  handed_is = sym (append-nil (handed_up (rlc w)));
+  confirmed_is = sym (append-nil (confirmed (rlc w)));
 }
 
 -- the way behind it
-pub record Extended (w : Way) (from to : BearerEnd) (ups : List (List ℕ)) (told : List AccountEntry) : Type 0 where
+pub record Extended (w : Way) (from to : BearerEnd) (ups : List (List ℕ)) (told : List AccountEntry)
+    (raised : List (List ℕ)) (news : List ℕ) : Type 0 where
   pub after : Way
   pub is : IsWay after
   pub bits : after.bits ≡ w.bits
   pub joins : Joins after from to
   pub stays : Stays (pdcp w) (pdcp after)
   pub goes : GoesOn w after [] ups told
+  pub handed_is : handed_up (rlc after) ≡ handed_up (rlc w) ++ raised
+  pub confirmed_is : confirmed (rlc after) ≡ confirmed (rlc w) ++ news
 
-pub extended : (w : Way) (from to : BearerEnd) (ups : List (List ℕ)) (told : List AccountEntry) → IsWay w
-    → Extends w (standing from to) ups told → Extended w from to ups told
-extended w from to ups told h x =
+pub extended : (w : Way) (from to : BearerEnd) (ups : List (List ℕ)) (told : List AccountEntry)
+    (raised : List (List ℕ)) (news : List ℕ) → IsWay w
+    → Extends w (standing from to) ups told raised news → Extended w from to ups told raised news
+extended w from to ups told raised news h x =
     let v : Way = with_more x.events x.steps w in
     let more = goes_on x.events x.steps w h x.events_given x.steps_given in
     let a : Standing = standing from to in
@@ -147,6 +158,8 @@ extended w from to ups told h x =
             (with_passings (passed x.steps (rlc w)) (told_of w)) (told_of v) more.pdcp_is (told_more w x.steps)
             (x.tells b k);
       };
+      handed_is = ap handed_up more.rlc_is ∙ x.handed_is;
+      confirmed_is = ap confirmed more.rlc_is ∙ x.confirmed_is;
     }
 
 pub reports_stay : (w back v under : Way) → Stays (pdcp w) (pdcp v) → Stays (pdcp back) (pdcp under) → Reports w back

@@ -4,9 +4,11 @@ use Rattle.std.proofs.lemmas.List.{append-nil}
 use Rattle.pdcp_tx.specs.declared.sender.Next.{Next}
 use Rattle.law_rlc.specs.AmPair.Flow.{Flow as Rlc, Step as RlcStep, happens as rlc_happens, goes as rlc_goes}
 use Rattle.law_rlc.specs.AmPair.Given.{IsGiven as IsGivenStep, AreGiven as AreGivenSteps}
+use Rattle.law_rlc.specs.AmPair.Confirmed.{confirmed}
 use Rattle.law_rlc.specs.AmPair.Sdus.{offered, handed_up}
 use Rattle.law_rlc.specs.AmPair.Arrives.{arrives, brings}
 use Rattle.law_rlc.specs.AmPair.Steps.{takes_up, offers}
+use Rattle.law_rlc.proofs.AmPair.Confirming.{IsSilent, step-confirms}
 use Rattle.law_rlc.proofs.AmPair.Laws.{only-data-arrives}
 use Rattle.law_rlc.proofs.AmPair.Steps.{goes-up, step-offers}
 use Rattle.law_pdcp.specs.AmPair.Flow.{Flow as Pdcp, Event, run_am_pdcp, AreGiven as AreGivenEvents}
@@ -18,6 +20,7 @@ use Rattle.law_deliver.specs.AmFlow.Pair.{BearerEnd}
 use Rattle.promises.specs.Given.{entries_passed}
 use Rattle.law_deliver.proofs.AmDelivery.Accounts.{told_of, told_more, TellsOn, tells_then, tells_passing, agrees_at}
 use Rattle.law_deliver.proofs.AmDelivery.Joined.{Way, IsWay, Joins, rlc, pdcp}
+use Rattle.law_deliver.proofs.AmDelivery.Lasting.{Lasts}
 use Rattle.law_deliver.proofs.AmDelivery.Ways.{with_more, IsMore, goes_on}
 use Rattle.law_deliver.proofs.AmDelivery.Promises.{GoesOn}
 
@@ -52,6 +55,9 @@ pub record Moves (w : Way) (xs : List Event) (ss : List RlcStep) (from to : Bear
   pub ups_are : (run_am_pdcp xs (pdcp w)).up ≡ (pdcp w).up ++ ups
   pub tells : TellsOn told (pdcp w) (told_of w) (run_am_pdcp xs (pdcp w))
       (with_passings (passed ss (rlc w)) (told_of w))
+  -- RLC hands up none, and confirms none
+  pub handed_is : handed_up (rlc_goes ss (rlc w)) ≡ handed_up (rlc w)
+  pub confirmed_is : confirmed (rlc_goes ss (rlc w)) ≡ confirmed (rlc w)
 
 pub record HasMoved (w v : Way) (xs : List Event) (from to : BearerEnd) (news ups : List (List ℕ))
     (told : List AccountEntry) : Type 0 where
@@ -85,6 +91,28 @@ moves_on w xs ss from to news ups told h m =
       };
     }
 
+-- what RLC is given in steps
+abbrev pub all_offers : List RlcStep → List (List ℕ)
+all_offers [] = []
+all_offers (s ∷ ss) = offers s ++ all_offers ss
+
+goes_offer : (ss : List RlcStep) (f : Rlc) → offered (rlc_goes ss f) ≡ offered f ++ all_offers ss
+goes_offer [] f = sym (append-nil (offered f))
+goes_offer (s ∷ ss) f =
+    goes_offer ss (rlc_happens f s) ∙ ap (λ l. l ++ all_offers ss) (step-offers f s)
+    ∙ append_assoc (offered f) (offers s) (all_offers ss)
+
+pub moves_last : (w : Way) (xs : List Event) (ss : List RlcStep) (from to : BearerEnd) (news ups : List (List ℕ))
+    (told : List AccountEntry) → IsWay w
+    → Moves w xs ss from to news ups told → Lasts w (with_more xs ss w) (all_offers ss) [] []
+moves_last w xs ss from to news ups told h m =
+    let more : IsMore xs ss w = goes_on xs ss w h m.events m.steps in
+    record {
+      offered_is = ap offered more.rlc_is ∙ goes_offer ss (rlc w);
+      handed_is = ap handed_up more.rlc_is ∙ m.handed_is ∙ sym (append-nil (handed_up (rlc w)));
+      confirmed_is = ap confirmed more.rlc_is ∙ m.confirmed_is ∙ sym (append-nil (confirmed (rlc w)));
+    }
+
 -- ---- one behind the other
 
 pub stays_so : (w : Way) → GoesOn w w [] [] []
@@ -111,19 +139,22 @@ goes_then {xs} {ys} w v u news more ups later h k = record {
 
 -- ---- a step of RLC
 
--- it brings no data PDU, and nothing goes up by it
+-- it brings no data PDU and no STATUS, and nothing goes up by it
 pub record IsCalm (s : RlcStep) : Type 0 where
   pub stays : takes_up s ≡ false
   pub none : brings s ≡ false
+  pub silent : IsSilent s
 
--- what was handed up and what has arrived stay
+-- what was handed up, what is confirmed and what has arrived stay
 pub record Rests (f g : Rlc) : Type 0 where
   pub handed : handed_up g ≡ handed_up f
+  pub confirmed_is : confirmed g ≡ confirmed f
   pub arrived : (k : ℕ) → arrives g k ≡ arrives f k
 
 pub rests : (w : Way) (s : RlcStep) → IsWay w → IsGivenStep (rlc w) s → IsCalm s → Rests (rlc w) (rlc_happens (rlc w) s)
 rests w s h given calm = record {
   handed = (goes-up (rlc w)).stays s given calm.stays;
+  confirmed_is = step-confirms (rlc w) s calm.silent;
   arrived = λ k. only-data-arrives w.sending w.receiving w.steps h.steps s k given calm.none;
 }
 
@@ -148,4 +179,6 @@ rlc_moves w s from to d p h joins given calm none flow tx rx =
       sdus_are = sym (append-nil (pdcp w).sdus);
       ups_are = sym (append-nil (pdcp w).up);
       tells = tells_passing (passed (s ∷ []) (rlc w)) (pdcp w) (pdcp w) (told_of w) refl refl (λ count. refl);
+      handed_is = r.handed;
+      confirmed_is = r.confirmed_is;
     }

@@ -8,6 +8,8 @@ use Rattle.law_words.specs.Arrivals.{AccountEntry}
 use Rattle.law_deliver.specs.AmDelivery.Arrival.{down_in, up_in}
 use Rattle.law_deliver.proofs.AmDelivery.Joined.{Way, JoinedPair, pdcp}
 use Rattle.law_deliver.proofs.AmDelivery.Accounts.{told_of, TellsOn}
+use Rattle.law_deliver.proofs.AmDelivery.Lasting.{Lasts, IsOfLife, near_given_in, far_given_in, near_raised_in}
+use Rattle.law_deliver.proofs.AmDelivery.Lasting.{far_raised_in, near_confirmed_in, far_confirmed_in}
 
 -- a way goes on: what went up and what was taken for the first time grow by these, and so much is told of it
 pub record GoesOn (w v : Way) (news ups : List (List ℕ)) (told : List AccountEntry) : Type 0 where
@@ -24,6 +26,8 @@ pub record BothGoOn (bits : ℕ) (down up : Way) (p : Pair) (x : LifeStep) : Typ
   pub joined : JoinedPair bits down_after up_after (lives_on p x)
   pub down_goes : GoesOn down down_after (near_news_in p x) (far_ups_in p x) (down_in p x)
   pub up_goes : GoesOn up up_after (far_news_in p x) (near_ups_in p x) (up_in p x)
+  pub down_lasts : IsOfLife x → Lasts down down_after (near_given_in p x) (far_raised_in p x) (near_confirmed_in p x)
+  pub up_lasts : IsOfLife x → Lasts up up_after (far_given_in p x) (near_raised_in p x) (far_confirmed_in p x)
 
 abbrev pub StepsGoOn : Type 0
 StepsGoOn = (bits : ℕ) (down up : Way) (p : Pair) (s : Step) → JoinedPair bits down up p → IsGiven p s → MayHappen p s

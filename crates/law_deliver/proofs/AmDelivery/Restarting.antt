@@ -240,4 +240,6 @@ restarts_go_on bits down up p keys h =
           near far);
       down_goes = renewed_goes bits down p.near p.far keys far d h.down_is h.down_joins;
       up_goes = renewed_goes bits up p.far p.near keys near u h.up_is h.up_joins;
+      down_lasts = λ in'. absurd in';
+      up_lasts = λ in'. absurd in';
     }

@@ -168,7 +168,7 @@ feeds_move w e o n h joins is some =
     let g = pdcp w in
     let f = rlc w in
     let s : RlcStep = SendsOn (Offer n.octets) in
-    let r = rests w s h some (record { stays = refl; none = refl }) in
+    let r = rests w s h some (record { stays = refl; none = refl; silent = tt }) in
     let is_given : taking g.sender ≡ Some n = ap taking joins.sender_is ∙ is in
     record {
       events = (tt, tt);
@@ -189,12 +189,14 @@ feeds_move w e o n h joins is some =
       ups_are = sym (append-nil g.up);
       tells = tells_given g (behind g) n (told_of w) (sound_pdcp w h).few
           (ap (λ (x : Option Next). g.stream ++ nexts_of x) is_given) refl (λ count. refl);
+      handed_is = r.handed;
+      confirmed_is = r.confirmed_is;
     }
 
 feeds_go_on : (bits : ℕ) (out inn : Way) (e o : BearerEnd) (n : Next) → JoinedEnds bits out inn e o
     → taking e.bearer.pdcp.tx ≡ Some n → HasOctet n.octets
     → EndsGoOn bits out inn (with_bearer (Feeds ∷ []) e) o (takes_new e.bearer.pdcp.tx TakePdcp) []
-    (Gives (given_of n) ∷ []) []
+    (Gives (given_of n) ∷ []) [] (n.octets ∷ []) []
 feeds_go_on bits out inn e o n h is some =
     out_goes_on bits out inn e o (with_bearer (Feeds ∷ []) e) (SendsEvent TakePdcp ∷ [])
     (SendsOn (Offer n.octets) ∷ []) (takes_new e.bearer.pdcp.tx TakePdcp) (Gives (given_of n) ∷ []) h
@@ -217,7 +219,7 @@ feeds_all pdus e = with_bearer (map (λ pdu. Feeds) pdus) e
 
 record Fed (bits : ℕ) (out inn : Way) (e o : BearerEnd) (pdus : List (List ℕ)) (given : List Given) : Type 0 where
   news : List (List ℕ)
-  goes : EndsGoOn bits out inn (feeds_all pdus e) o news [] (entries_of given) []
+  goes : EndsGoOn bits out inn (feeds_all pdus e) o news [] (entries_of given) [] pdus []
   left : news ++ sdus (feeds_all pdus e).bearer.pdcp.tx.waiting ≡ sdus e.bearer.pdcp.tx.waiting
   tx : (feeds_all pdus e).bearer.tx ≡ sends_all (map (λ sdu. Offer sdu) pdus) e.bearer.tx
 
@@ -227,7 +229,7 @@ none_fed bits out inn e o h = record { news = []; goes = stays_joined bits out i
 one_fed : (bits : ℕ) (out inn : Way) (e o : BearerEnd) (n : Next) (pdus : List (List ℕ)) (given : List Given)
     → taking e.bearer.pdcp.tx ≡ Some n
     → (m : EndsGoOn bits out inn (with_bearer (Feeds ∷ []) e) o (takes_new e.bearer.pdcp.tx TakePdcp) []
-    (Gives (given_of n) ∷ []) [])
+    (Gives (given_of n) ∷ []) [] (n.octets ∷ []) [])
     → Fed bits m.out_after m.inn_after (with_bearer (Feeds ∷ []) e) o pdus given
     → Fed bits out inn e o (n.octets ∷ pdus) (given_of n ∷ given)
 one_fed bits out inn e o n pdus given is m more =
@@ -236,7 +238,8 @@ one_fed bits out inn e o n pdus given is m more =
     let last = (feeds_all pdus d).bearer.pdcp.tx.waiting in
     record {
       news = takes_new s TakePdcp ++ more.news;
-      goes = ends_then bits out inn d o (feeds_all pdus d) o (takes_new s TakePdcp) more.news [] [] m more.goes;
+      goes = ends_then bits out inn d o (feeds_all pdus d) o (takes_new s TakePdcp) more.news [] [] (n.octets ∷ []) pdus
+          [] [] m more.goes;
       left = append_assoc (takes_new s TakePdcp) more.news (sdus last) ∙ ap (λ l. takes_new s TakePdcp ++ l) more.left
           ∙ queue_left s;
       tx = more.tx ∙ ap (λ (x : Option Next). sends_all (map (λ sdu. Offer sdu) pdus) (offered_next x e.bearer.tx)) is;
@@ -289,7 +292,7 @@ status_flow e o f share h = record {
 }
 
 writes_go_on : (bits : ℕ) (out inn : Way) (e o : BearerEnd) (due : Bool) (share : ℕ) → JoinedEnds bits out inn e o
-    → EndsGoOn bits out inn (writes due share e) o [] [] [] []
+    → EndsGoOn bits out inn (writes due share e) o [] [] [] [] [] []
 writes_go_on bits out inn e o true share h =
     let f = rlc inn in
     let s : RlcStep = ReportsOn (share - 3) (status_pdu e.bearer.rx share) in
@@ -297,7 +300,7 @@ writes_go_on bits out inn e o true share h =
     let between = stays_between bits out inn e o (Receives Write) h tt in
     inn_goes_on bits out inn e o d (s ∷ []) h
     (rlc_moves inn s o e o d h.inn_is h.inn_joins (is_reported f e.bearer.rx share h.inn_joins.rlc_is.receiver_is)
-    (record { stays = refl; none = refl }) refl
+    (record { stays = refl; none = refl; silent = tt }) refl
     (status_flow e o f share h.inn_joins.rlc_is) refl refl)
     (record { tx = refl; copies = refl; busy = refl; pdcp = refl })
     (record { of_data = between.of_data; idle = between.idle })
@@ -312,7 +315,7 @@ data_goes_on : (bits : ℕ) (out inn : Way) (e d o : BearerEnd) (share : ℕ) (h
     → JoinedEnds bits out inn d o → IsTaking e share held
     → d.bearer.tx ≡ offered_to e.bearer share held → d.copies ≡ e.copies → d.busy ≡ e.busy
     → EndsGoOn bits out inn (gives_data (data_size e.bearer share) held (has_more_behind e.bearer share held) d) o []
-    [] (entries_passed (written_in (data_given e.bearer share held))) []
+    [] (entries_passed (written_in (data_given e.bearer share held))) [] [] []
 data_goes_on bits out inn e d o share held h t tx copies busy =
     let size = data_size e.bearer share in
     let more = has_more_behind e.bearer share held in
@@ -326,8 +329,8 @@ data_goes_on bits out inn e d o share held h t tx copies busy =
     let given : passed (SendsOn (Take size held more) ∷ []) (rlc out) ≡ written_in (data_given e.bearer share held) =
     append-nil (written_in (answer (sender (rlc out)).state size held more))
     ∙ ap (λ (x : Sender). written_in (answer x size held more)) (flow.sender_is ∙ tx) in
-    subst (λ (l : List Passing). EndsGoOn bits out inn (gives_data size held more d) o [] [] (entries_passed l) [])
-    given
+    subst (λ (l : List Passing). EndsGoOn bits out inn (gives_data size held more d) o [] [] (entries_passed l) [] []
+    []) given
     (sends_on bits out inn d o (Take size held more) h can refl tt)
 
 -- ---- the whole
@@ -398,10 +401,10 @@ abbrev StatusIs : List ℕ → Type 0
 StatusIs octets = (pdu : StatusPdu) × (am_at octets ≡ Ok (Control pdu))
 
 -- the same account, told otherwise
-said_as : (bits : ℕ) (out inn : Way) (e o : BearerEnd) (news : List (List ℕ)) (xs ys : List AccountEntry)
+said_as : (bits : ℕ) (out inn : Way) (e o : BearerEnd) (news given : List (List ℕ)) (xs ys : List AccountEntry)
     → ((a : Account) → account ys a ≡ account xs a)
-    → EndsGoOn bits out inn e o news [] xs [] → EndsGoOn bits out inn e o news [] ys []
-said_as bits out inn e o news xs ys same m = record {
+    → EndsGoOn bits out inn e o news [] xs [] given [] → EndsGoOn bits out inn e o news [] ys [] given []
+said_as bits out inn e o news given xs ys same m = record {
   out_after = m.out_after;
   inn_after = m.inn_after;
   joined = m.joined;
@@ -415,6 +418,8 @@ said_as bits out inn e o news xs ys same m = record {
         (m.out_goes.tells a k);
   };
   inn_goes = m.inn_goes;
+  out_lasts = m.out_lasts;
+  inn_lasts = m.inn_lasts;
 }
 
 -- a STATUS tells nothing of what goes this way
@@ -483,7 +488,7 @@ says_so bits out inn e o share held h a =
 pub takes_go_on : (bits : ℕ) (out inn : Way) (e o : BearerEnd) (share : ℕ) (held : Option ℕ)
     → JoinedEnds bits out inn e o → IsTaking e share held
     → EndsGoOn bits out inn (calls e (TakeCall share held)) o (news (Am e.bearer) (TakeCall share held)) []
-    (said_in e.bearer (TakeCall share held)) []
+    (said_in e.bearer (TakeCall share held)) [] (offers_in e.bearer share held) []
 takes_go_on bits out inn e o share held h t =
     let b = e.bearer in
     let os = taken_in (Am b) (TakeCall share held) in
@@ -500,15 +505,18 @@ takes_go_on bits out inn e o share held h t =
     all_fed bits v u e1 o os (drop k (offers_of b.pdcp.tx)) m1.joined
     (sym (take-append-drop k (offers_of b.pdcp.tx))) t.some in
     let m3 = data_goes_on bits m2.goes.out_after m2.goes.inn_after e e2 o share held m2.goes.joined t m2.tx refl refl in
-    let m4 : EndsGoOn bits v u e3 o (m2.news ++ []) [] said [] =
-    ends_then bits v u e2 o e3 o m2.news [] [] [] m2.goes m3 in
-    let m5 : EndsGoOn bits out inn e3 o (m2.news ++ []) [] said [] =
-    ends_then bits out inn e1 o e3 o [] (m2.news ++ []) [] [] m1 m4 in
+    let m4 : EndsGoOn bits v u e3 o (m2.news ++ []) [] said [] (pdus ++ []) [] =
+    ends_then bits v u e2 o e3 o m2.news [] [] [] pdus [] [] [] m2.goes m3 in
+    let m5 : EndsGoOn bits out inn e3 o (m2.news ++ []) [] said [] (pdus ++ []) [] =
+    ends_then bits out inn e1 o e3 o [] (m2.news ++ []) [] [] [] (pdus ++ []) [] [] m1 m4 in
     let are : m2.news ++ [] ≡ news (Am b) (TakeCall share held) =
     append-nil m2.news ∙ news_are bits b share held m2.news h.of_data h.idle m2.left in
-    let m6 : EndsGoOn bits out inn (calls e (TakeCall share held)) o (news (Am b) (TakeCall share held)) [] said [] =
-    subst (λ (d : BearerEnd). EndsGoOn bits out inn d o (news (Am b) (TakeCall share held)) [] said [])
+    let m6 : EndsGoOn bits out inn (calls e (TakeCall share held)) o (news (Am b) (TakeCall share held)) [] said []
+    pdus [] =
+    subst (λ (d : BearerEnd). EndsGoOn bits out inn d o (news (Am b) (TakeCall share held)) [] said [] pdus [])
     (taken_is bits e share held h.of_data h.idle m2.tx)
-    (subst (λ (l : List (List ℕ)). EndsGoOn bits out inn e3 o l [] said []) are m5) in
-    said_as bits out inn (calls e (TakeCall share held)) o (news (Am b) (TakeCall share held)) said
+    (subst (λ (l : List (List ℕ)). EndsGoOn bits out inn e3 o (news (Am b) (TakeCall share held)) [] said [] l [])
+    (append-nil pdus)
+    (subst (λ (l : List (List ℕ)). EndsGoOn bits out inn e3 o l [] said [] (pdus ++ []) []) are m5)) in
+    said_as bits out inn (calls e (TakeCall share held)) o (news (Am b) (TakeCall share held)) pdus said
     (said_in b (TakeCall share held)) (says_so bits out inn e o share held h) m6

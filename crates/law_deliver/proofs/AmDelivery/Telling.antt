@@ -11,13 +11,15 @@ use Rattle.pdcp_rx.specs.declared.got.Cause.TheVariants.{Arrived}
 use Rattle.pdcp_rx.specs.declared.got.Got.TheVariants as answers
 use Rattle.pdcp_rx.specs.Heard.{Heard, Bad, Told, Data, heard}
 use Rattle.pdcp_rx.specs.State.{State as Receiving, got, got_heard}
+use Rattle.law_rlc.specs.AmPair.Confirmed.{confirmed}
+use Rattle.law_rlc.specs.AmPair.Sdus.{handed_up}
 use Rattle.law_pdcp.specs.AmPair.Flow.{Flow as Pdcp, Sends, Comes, run_am_pdcp}
 use Rattle.law_pdcp.specs.AmPair.Reading.{IsRead, IsNextRead}
 use Rattle.law_pdcp.proofs.AmPair.EachRead.{reads_each}
 use Rattle.law_bearer.specs.AmBearer.Deeds.{after_heard}
 use Rattle.law_deliver.proofs.AmFlow.Flows.{all_at}
 use Rattle.law_deliver.proofs.AmDelivery.Accounts.{sound_pdcp, told_of, tells_passing}
-use Rattle.law_deliver.proofs.AmDelivery.Joined.{Way, IsWay, pdcp, IsReportOf, Reports}
+use Rattle.law_deliver.proofs.AmDelivery.Joined.{Way, IsWay, rlc, pdcp, IsReportOf, Reports}
 use Rattle.law_deliver.proofs.AmDelivery.Meeting.{Standing, MeetsNow, Extends, rests}
 use Rattle.law_deliver.proofs.AmDelivery.HandingUp.{IsNext}
 
@@ -72,7 +74,7 @@ owed_stays s fms bitmap = owed_so (fms_count s.kind s.base fms) s bitmap
 
 report_comes : (w : Way) (a : Standing) (fms : ℕ) (bitmap : List ℕ)
     → Comes (pdcp w).report (pdcp w).sender.kind fms bitmap
-    → MeetsNow w a → Extends w (record a { sending = after a.sending (ReportComes fms bitmap) }) [] []
+    → MeetsNow w a → Extends w (record a { sending = after a.sending (ReportComes fms bitmap) }) [] [] [] []
 report_comes w a fms bitmap comes m =
     let g : Pdcp = pdcp w in
     record {
@@ -97,11 +99,13 @@ report_comes w a fms bitmap comes m =
       ups_are = sym (append-nil g.up);
       tells = tells_passing [] g (run_am_pdcp (Sends (ReportComes fms bitmap) ∷ []) g) (told_of w) (append-nil g.stream)
           refl (λ count. refl);
+      handed_is = sym (append-nil (handed_up (rlc w)));
+      confirmed_is = sym (append-nil (confirmed (rlc w)));
     }
 
 pub hears_report : (out inn : Way) (a : Standing) (sdu : List ℕ) (x : Heard) → heard (pdcp inn).receiver.kind sdu ≡ x
     → IsWay out → IsWay inn → out.bits ≡ inn.bits → Reports out inn → IsNext inn sdu → MeetsNow out a
-    → Extends out (record a { sending = after_heard x a.sending }) [] []
+    → Extends out (record a { sending = after_heard x a.sending }) [] [] [] []
 hears_report out inn a sdu (Bad refusal) e oh ih same told next m = rests out a m
 hears_report out inn a sdu (Told fms bitmap) e oh ih same told next m =
     report_comes out a fms bitmap (report_is out inn sdu fms bitmap oh ih same told next e) m

@@ -18,6 +18,7 @@ use Rattle.law_rlc.specs.AmPair.Flow.{happens as rlc_happens}
 use Rattle.law_rlc.specs.AmPair.Given.{IsGiven as IsGivenStep}
 use Rattle.law_rlc.specs.AmPair.Steps.{is_up, offers}
 use Rattle.law_rlc.specs.AmArrival.Arrival.{passed}
+use Rattle.law_rlc.proofs.AmPair.Confirming.{sending-silent}
 use Rattle.law_pdcp.specs.AmPair.Flow.{Flow as Pdcp, Sends as SendsEvent, SetDiscard as SetsDiscard, CanCall}
 use Rattle.law_pdcp.specs.AmPair.Flow.{run_am_pdcp}
 use Rattle.law_bearer.specs.AnyBearer.Acknowledged.{IsOfSender}
@@ -105,11 +106,13 @@ asks_move w c e o h can a =
       ups_are = sym (append-nil (pdcp w).up);
       tells = tells_passing [] (pdcp w) (run_am_pdcp (SendsEvent c ∷ []) (pdcp w)) (told_of w) alike.stream refl
           (λ count. refl);
+      handed_is = refl;
+      confirmed_is = refl;
     }
 
 pub asks_go_on : (bits : ℕ) (out inn : Way) (e o : BearerEnd) (c : PdcpCall) → JoinedEnds bits out inn e o
     → CanCall (pdcp out) c → IsAside c
-    → EndsGoOn bits out inn (with_bearer (Asks c ∷ []) e) o [] [] [] []
+    → EndsGoOn bits out inn (with_bearer (Asks c ∷ []) e) o [] [] [] [] [] []
 asks_go_on bits out inn e o c h can a =
     out_goes_on bits out inn e o (with_bearer (Asks c ∷ []) e) (SendsEvent c ∷ []) [] [] []
     h (asks_move out c e o h.out_joins can a) (record { rx = refl; reports = refl; pdcp = refl })
@@ -142,10 +145,12 @@ sets_move w ttis e o h = record {
   ups_are = sym (append-nil (pdcp w).up);
   tells =
       tells_passing [] (pdcp w) (run_am_pdcp (SetsDiscard ttis ∷ []) (pdcp w)) (told_of w) refl refl (λ count. refl);
+  handed_is = refl;
+  confirmed_is = refl;
 }
 
 pub sets_go_on : (bits : ℕ) (out inn : Way) (e o : BearerEnd) (ttis : ℕ) → JoinedEnds bits out inn e o
-    → EndsGoOn bits out inn (with_bearer (Sets ttis ∷ []) e) o [] [] [] []
+    → EndsGoOn bits out inn (with_bearer (Sets ttis ∷ []) e) o [] [] [] [] [] []
 sets_go_on bits out inn e o ttis h =
     let t = tells inn out h.inn_reports in
     out_goes_on bits out inn e o (with_bearer (Sets ttis ∷ []) e) (SetsDiscard ttis ∷ []) [] [] []
@@ -171,26 +176,28 @@ sends_flow e o f c h =
 
 pub sends_on : (bits : ℕ) (out inn : Way) (e o : BearerEnd) (c : SenderCall) → JoinedEnds bits out inn e o
     → IsGivenStep (rlc out) (SendsOn c) → offers (SendsOn c) ≡ [] → IsQuiet (Sends c)
-    → EndsGoOn bits out inn (sent_by c e) o [] [] (entries_passed (passed (SendsOn c ∷ []) (rlc out))) []
+    → EndsGoOn bits out inn (sent_by c e) o [] [] (entries_passed (passed (SendsOn c ∷ []) (rlc out))) [] [] []
 sends_on bits out inn e o c h can none quiet =
     let between = stays_between bits out inn e o (Sends c) h quiet in
     let t = tells inn out h.inn_reports in
-    out_goes_on bits out inn e o (sent_by c e) [] (SendsOn c ∷ []) []
-    (entries_passed (passed (SendsOn c ∷ []) (rlc out))) h
-    (rlc_moves out (SendsOn c) e o (sent_by c e) o h.out_is h.out_joins can (record { stays = refl; none = refl })
-    none (sends_flow e o (rlc out) c h.out_joins.rlc_is) refl refl)
+    let said = entries_passed (passed (SendsOn c ∷ []) (rlc out)) in
+    subst (λ (given : List (List ℕ)). EndsGoOn bits out inn (sent_by c e) o [] [] said [] (given ++ []) []) none
+    (out_goes_on bits out inn e o (sent_by c e) [] (SendsOn c ∷ []) [] said h
+    (rlc_moves out (SendsOn c) e o (sent_by c e) o h.out_is h.out_joins can
+    (record { stays = refl; none = refl; silent = sending-silent (rlc out) c can }) none
+    (sends_flow e o (rlc out) c h.out_joins.rlc_is) refl refl)
     (record { rx = refl; reports = refl; pdcp = refl }) (record { of_data = between.of_data; idle = between.idle })
-    refl t
+    refl t)
 
 -- one that gives no PDU
 by_itself : (bits : ℕ) (out inn : Way) (d o : BearerEnd) (busy : Bool)
-    → EndsGoOn bits out inn (record d { busy = busy || false }) o [] [] [] []
-    → EndsGoOn bits out inn (record d { busy = busy }) o [] [] [] []
+    → EndsGoOn bits out inn (record d { busy = busy || false }) o [] [] [] [] [] []
+    → EndsGoOn bits out inn (record d { busy = busy }) o [] [] [] [] [] []
 by_itself bits out inn d o busy h =
-    subst (λ (b : Bool). EndsGoOn bits out inn (record d { busy = b }) o [] [] [] []) (sym (or_none busy)) h
+    subst (λ (b : Bool). EndsGoOn bits out inn (record d { busy = b }) o [] [] [] [] [] []) (sym (or_none busy)) h
 
 sends_own : (bits : ℕ) (out inn : Way) (e o : BearerEnd) (c : SenderCall) → JoinedEnds bits out inn e o → IsOfSender c
-    → EndsGoOn bits out inn (with_bearer (Sends c ∷ []) e) o [] [] [] []
+    → EndsGoOn bits out inn (with_bearer (Sends c ∷ []) e) o [] [] [] [] [] []
 sends_own bits out inn e o (Offer sdu) h own = absurd own
 sends_own bits out inn e o (Take size held more) h own = absurd own
 sends_own bits out inn e o (Status status) h own = absurd own
@@ -219,7 +226,7 @@ IsTimed TickProhibit = Unit {0}
 
 receives_on : (bits : ℕ) (out inn : Way) (e o : BearerEnd) (c : ReceiverCall) → JoinedEnds bits out inn e o
     → IsGivenStep (rlc inn) (ReceivesOn c) → is_up c ≡ false → IsQuiet (Receives c)
-    → EndsGoOn bits out inn (with_bearer (Receives c ∷ []) e) o [] [] [] []
+    → EndsGoOn bits out inn (with_bearer (Receives c ∷ []) e) o [] [] [] [] [] []
 receives_on bits out inn e o c h can stays quiet =
     let d = with_bearer (Receives c ∷ []) e in
     let f = rlc inn in
@@ -227,13 +234,13 @@ receives_on bits out inn e o c h can stays quiet =
     is_flow o d (rlc_happens f (ReceivesOn c))
     (receives_one f c o.bearer.tx e.bearer.rx o.copies e.reports o.busy (stands_as o e f h.inn_joins.rlc_is)) in
     inn_goes_on bits out inn e o d (ReceivesOn c ∷ []) h
-    (rlc_moves inn (ReceivesOn c) o e o d h.inn_is h.inn_joins can (record { stays = stays; none = refl }) refl flow
-    refl refl)
+    (rlc_moves inn (ReceivesOn c) o e o d h.inn_is h.inn_joins can
+    (record { stays = stays; none = refl; silent = tt }) refl flow refl refl)
     (record { tx = refl; copies = refl; busy = refl; pdcp = refl })
     (stays_between bits out inn e o (Receives c) h quiet)
 
 receives_own : (bits : ℕ) (out inn : Way) (e o : BearerEnd) (c : ReceiverCall) → JoinedEnds bits out inn e o → IsTimed c
-    → EndsGoOn bits out inn (with_bearer (Receives c ∷ []) e) o [] [] [] []
+    → EndsGoOn bits out inn (with_bearer (Receives c ∷ []) e) o [] [] [] [] [] []
 receives_own bits out inn e o (Arrive pdu) h own = absurd own
 receives_own bits out inn e o Up h own = absurd own
 receives_own bits out inn e o Write h own = absurd own
@@ -254,7 +261,7 @@ IsCounting TickPdcp = Unit {0}
 IsCounting Late = Unit {0}
 
 asks_own : (bits : ℕ) (out inn : Way) (e o : BearerEnd) (c : PdcpCall) → JoinedEnds bits out inn e o → IsCounting c
-    → EndsGoOn bits out inn (with_bearer (Asks c ∷ []) e) o [] [] [] []
+    → EndsGoOn bits out inn (with_bearer (Asks c ∷ []) e) o [] [] [] [] [] []
 asks_own bits out inn e o (Submit sdu) h own = absurd own
 asks_own bits out inn e o TakePdcp h own = absurd own
 asks_own bits out inn e o (ConfirmPdcp place) h own = absurd own
@@ -273,7 +280,7 @@ IsOwn (Asks c) = IsCounting c
 IsOwn (Sets ttis) = Unit {0}
 
 own_one : (bits : ℕ) (out inn : Way) (e o : BearerEnd) (deed : Deed) → JoinedEnds bits out inn e o → IsOwn deed
-    → EndsGoOn bits out inn (with_bearer (deed ∷ []) e) o [] [] [] []
+    → EndsGoOn bits out inn (with_bearer (deed ∷ []) e) o [] [] [] [] [] []
 own_one bits out inn e o Feeds h own = absurd own
 own_one bits out inn e o (Sends c) h own = sends_own bits out inn e o c h own
 own_one bits out inn e o Confirms h own = absurd own
@@ -287,10 +294,10 @@ AreOwn deeds = AllByRecursion IsOwn deeds
 
 pub own_all : (bits : ℕ) (out inn : Way) (e o : BearerEnd) (deeds : List Deed) → JoinedEnds bits out inn e o
     → AreOwn deeds
-    → EndsGoOn bits out inn (with_bearer deeds e) o [] [] [] []
+    → EndsGoOn bits out inn (with_bearer deeds e) o [] [] [] [] [] []
 own_all bits out inn e o [] h own = stays_joined bits out inn e o h
 own_all bits out inn e o (deed ∷ deeds) h own =
     let m = own_one bits out inn e o deed h own.0 in
     let d = with_bearer (deed ∷ []) e in
-    ends_then bits out inn d o (with_bearer deeds d) o [] [] [] [] m
+    ends_then bits out inn d o (with_bearer deeds d) o [] [] [] [] [] [] [] [] m
     (own_all bits m.out_after m.inn_after d o deeds m.joined own.1)

@@ -265,7 +265,7 @@ still : (b : State) → IsPlain Srb b.pdcp → (last_ups b).pdcp ≡ b.pdcp
 still b h =
     ap (λ (x : Bool). (ends_with x (finished b.rx) (record { pdcp = b.pdcp; events = [] })).pdcp) (ap is_am h.own)
 
-none_next : (f : Flow) (keys : Keys) → BeginsAnew f → waits_in (restarted (stopped f) keys) ≡ []
+pub none_next : (f : Flow) (keys : Keys) → BeginsAnew f → waits_in (restarted (stopped f) keys) ≡ []
 unfolding restarted stopped am_restarted am_stopped
 none_next (Tm b) keys h = refl
 none_next (Um b) keys h = absurd h

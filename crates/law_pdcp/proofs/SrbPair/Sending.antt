@@ -214,7 +214,7 @@ bound_by : (b : Bool) (bound next : ℕ) → 2 ^ 32 ≤ bound → 2 ^ 32 ≤ (if
 bound_by true bound next h = h
 bound_by false bound next h = omega arith
 
-moved_wide : (s : State) → s.kind ≡ Srb → s.given.entries ≡ [] → s.again ≡ [] → 2 ^ 32 ≤ s.bound
+pub moved_wide : (s : State) → s.kind ≡ Srb → s.given.entries ≡ [] → s.again ≡ [] → 2 ^ 32 ≤ s.bound
     → 2 ^ 32 ≤ (moved s).bound
 moved_wide s srb none again wide =
     let least : low s ≡ s.next = ap (λ l. or_else (first_open l) (or_else (first_unacked s.again) s.next)) none

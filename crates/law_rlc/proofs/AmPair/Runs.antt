@@ -19,7 +19,7 @@ use Rattle.law_rlc.specs.AmPair.Numbers.{is_acked}
 abbrev pub called : {G : Type 0} → (State → SenderCall → G → G) → SenderWorld G → SenderCall → SenderWorld G
 called grow w c = record { state = after w.state c; past = grow w.state c w.past }
 
-run-more : {G : Type 0} (grow : State → SenderCall → G → G) (cs : List SenderCall) (c : SenderCall)
+pub run-more : {G : Type 0} (grow : State → SenderCall → G → G) (cs : List SenderCall) (c : SenderCall)
     (w : SenderWorld G) → run_am_sender grow (cs ++ c ∷ []) w ≡ called grow (run_am_sender grow cs w) c
 run-more grow [] c w = refl
 run-more grow (d ∷ ds) c w = run-more grow ds c (called grow w d)
