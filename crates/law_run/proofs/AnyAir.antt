@@ -38,18 +38,20 @@ use Rattle.law_run.specs.AnyCalls.Calls as calls
 use Rattle.law_run.specs.AnyCalls.Runs.{Step, Calls}
 use Rattle.law_run.specs.TwoEnds.Coming.{none_yet}
 use Rattle.law_run.specs.TwoEnds.Going.{GoesByAir, IsStepSince}
-use Rattle.law_run.specs.TwoEnds.Logs.{LogEntry, all_tell, log_of, no_flight, logged}
+use Rattle.law_run.specs.TwoEnds.Logs.{LogEntry, all_tell, log_of, no_flight, logged, flight_in}
 use Rattle.law_run.specs.TwoEnds.On.{IsOn}
 use Rattle.law_run.proofs.AnyCalls.Calling.{calls_adds}
 use Rattle.law_run.proofs.AnyCalls.Going.{Seen, told_seen, told_both, own_told, other_told, run_on, over_on}
 use Rattle.law_run.proofs.Flowing.{Sdus, Happened, StepLives, GoesThrough, PartLives, step_plays, line_stays}
 use Rattle.law_run.proofs.BearerWalk.{adds_one}
+use Rattle.law_run.proofs.TwoEnds.Along.{logged_more, looped_more}
 use Rattle.law_run.proofs.TwoEnds.Advancing.{both_on}
 use Rattle.law_run.proofs.TwoEnds.Coming.{ends_come_by, come_as, come_by_none, steps_come}
-use Rattle.law_run.proofs.TwoEnds.Going.{calm, station, with_station, flight_in, tells_more, logged_more}
+use Rattle.law_run.proofs.TwoEnds.Going.{calm, station, with_station, tells_more}
 use Rattle.law_run.proofs.TwoEnds.Resting.{loops_rests}
-use Rattle.law_run.proofs.TwoEnds.Stages.{Both, Stands, stands_on, quiet_events, events_unlooped, none_looped}
-use Rattle.law_run.proofs.TwoEnds.Stages.{looped_more, own_logged}
+use Rattle.law_run.proofs.TwoEnds.Stages.{Both, Stands, stands_on, events_unlooped, none_looped}
+use Rattle.law_run.proofs.TwoEnds.QuietEvents.{quiet_events}
+use Rattle.law_run.proofs.TwoEnds.Stages.{own_logged}
 use Rattle.law_run.proofs.TwoEnds.Stations.{Waits}
 
 -- an end comes by calls, as records tell, in which it is handed SDUs

@@ -42,7 +42,7 @@ adds_it lcid (lines.Bearer config options) e =
     record { config = config; options = options; line_is = refl; lcid_is = same_lcid config.channel.lcid lcid e }
 adds_it lcid line e = absurd cc
 
-unchanged : (lcid : ℕ) (line : Line) (before : Option BearerConfig) (config : BearerConfig)
+pub unchanged : (lcid : ℕ) (line : Line) (before : Option BearerConfig) (config : BearerConfig)
     → adds_one lcid line ≡ false → config_by lcid line before ≡ Some config → before ≡ Some config
 unchanged lcid (lines.Bearer c options) before config free e =
     sym (ap (λ (b : Bool). if b then Some c else before) free) ∙ e

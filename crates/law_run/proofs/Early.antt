@@ -12,13 +12,13 @@ use Rattle.air_run.specs.Run.{fresh, behind_line}
 use Rattle.air_text.specs.Groups.{Group, history}
 use Rattle.air_text.specs.Ranges.{IsInRange}
 use Rattle.l2_types.specs.declared.side.Side.{Side}
-use Rattle.l2_types.specs.declared.side.Side.TheVariants.{Nb, Ue}
 use Rattle.law_run.specs.AnyCalls.Calls as calls
 use Rattle.promises.specs.Records.{events_of}
 use Rattle.law_run.proofs.AnyCalls.Going.{told_both}
 use Rattle.promises.specs.Arrival.{entries_in, entries_ended, entries_from}
 use Rattle.law_words.specs.Arrivals.{AccountEntry}
 use Rattle.law_run.specs.TwoEnds.Lives.{IsAtRest}
+use Rattle.law_run.proofs.TwoEnds.Along.{nothing_looped}
 use Rattle.law_run.proofs.TwoEnds.Lives.{first_rests, calls_rest}
 use Rattle.promises.specs.Flows.{handed_in, looped_at, submitted}
 use Rattle.law_run.specs.Order.{state_behind, KeepsOrder}
@@ -84,10 +84,6 @@ pub record IsEarly (past : List Group) : Type 0 where
 shown_rests : (k : Link) → IsAtRest k → IsAtRest (shown k)
 shown_rests k h = record { nb_is = refl; ue_is = refl; nb = h.nb; ue = h.ue; nb_idle = refl; ue_idle = refl }
 
-pub none_looped : (side : Side) (lcid : ℕ) → looped_at side lcid [] ≡ []
-none_looped Nb lcid = refl
-none_looped Ue lcid = refl
-
 still_early : (past : List Group) (g : Group) → IsEarly past
     → StillRests g.line (link_behind past) (behind_line g.line (state_behind past))
     → g.events ≡ (behind_line g.line (state_behind past)).out → IsEarly (g ∷ past)
@@ -103,7 +99,7 @@ still_early past g h s e =
           ++ (handed_in side lcid (part_of_line g.line) g.events ++ looped_at side lcid g.events))
           (h.none_submitted side lcid)
           ∙ ap (λ p. handed_in side lcid p g.events ++ looped_at side lcid g.events) s.part_is
-          ∙ ap (λ (x : List Record). looped_at side lcid x) none ∙ none_looped side lcid;
+          ∙ ap (λ (x : List Record). looped_at side lcid x) none ∙ nothing_looped side lcid;
       none_happened = λ bits lcid from.
           ap (λ (hs : List AccountEntry). hs ++ (entries_ended g.line ++ entries_in bits lcid from [] g.events))
           (h.none_happened bits lcid from)

@@ -34,9 +34,10 @@ use Rattle.law_run.specs.TwoEnds.Arrival.{renewals_in, told_by_step}
 use Rattle.promises.specs.Arrival.{entries_in, entries_ended}
 use Rattle.law_words.specs.Arrivals.{AccountEntry}
 use Rattle.law_run.specs.TwoEnds.Going.{TellAlone, sets, handed_in as handed_by, IsStepSince}
-use Rattle.law_run.specs.TwoEnds.Logs.{LogEntry, no_flight, logged, LogAlone}
-use Rattle.law_run.proofs.TwoEnds.Going.{logged_more, logged_both}
-use Rattle.law_run.proofs.TwoEnds.Going.{last_in, flight_in, tells_more}
+use Rattle.law_run.specs.TwoEnds.Logs.{LogEntry, no_flight, logged, LogAlone, last_in, flight_in}
+use Rattle.law_run.proofs.TwoEnds.Along.{logged_more, nothing_looped}
+use Rattle.law_run.proofs.TwoEnds.Going.{logged_both}
+use Rattle.law_run.proofs.TwoEnds.Going.{tells_more}
 use Rattle.law_run.specs.TwoEnds.Staying.{is_handover_step}
 use Rattle.law_run.proofs.TwoEnds.Showing.{in_then}
 use Rattle.mac_pdu.specs.declared.item.Direction.{Direction}
@@ -48,7 +49,6 @@ use Rattle.test_loop.specs.declared.Mode.TheVariants.{Off, A, B}
 use Rattle.promises.specs.Delivery.{forges, sets_timer}
 use Rattle.promises.specs.Parts.{is_handover, Part, Submits, Rests, part_of_line}
 use Rattle.promises.specs.Flows.{handed_in, looped_at}
-use Rattle.law_run.proofs.Early.{none_looped}
 use Rattle.law_run.proofs.BearerWalk.{adds_one}
 
 -- the SDUs of each side and channel
@@ -80,7 +80,7 @@ looped_then Ue n xs ys = ap (map sdu_of) (filter-append (is_looped n) xs ys)
     ∙ map-append sdu_of (filter (is_looped n) xs) (filter (is_looped n) ys)
 
 no_more : (side : Side) (n : ℕ) (xs : List (List ℕ)) → xs ++ looped_at side n [] ≡ xs
-no_more side n xs = ap (λ (ys : List (List ℕ)). xs ++ ys) (none_looped side n) ∙ append-nil xs
+no_more side n xs = ap (λ (ys : List (List ℕ)). xs ++ ys) (nothing_looped side n) ∙ append-nil xs
 
 both_looped : (side : Side) (n : ℕ) (all : List (List ℕ)) (xs ys : List Record)
     → (all ++ looped_at side n xs) ++ looped_at side n ys ≡ all ++ looped_at side n (xs ++ ys)

@@ -1,10 +1,12 @@
 pub mod Processes
 pub mod Flying
 pub mod Stations
+pub mod Along
 pub mod Going
 pub mod Steps
 pub mod Showing
 pub mod Stages
+pub mod QuietEvents
 pub mod Blocks
 pub mod Resting
 pub mod Visits

@@ -2,6 +2,7 @@ pub mod Shown
 pub mod On
 pub mod Arrival
 pub mod Logs
+pub mod Along
 pub mod SenderLog
 pub mod ChannelLog
 pub mod Going

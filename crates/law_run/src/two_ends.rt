@@ -20,12 +20,15 @@ ghost use Rattle.law_run.specs.TwoEnds.Links.{LinksAreFlows, LinksAreOrdered};
 /// What the records tell of each end is what it tells in its calls, and in one order what both
 /// tell, the blocks that they build and those that come, each with its HARQ process. An end is
 /// submitted what is handed in and not refused, and at the terminal what the test loop returns, as
-/// records tell. And they tell what goes by air on a channel in each direction, in this order: the
-/// PDUs that the sending end's PDCP gives RLC, the PDUs of RLC in its new blocks, and those in the
-/// blocks that come; a handover ends the life. Where they show the PDUs of the channel as those of
-/// unacknowledged RLC they tell, as `um_losses` reads them, just what these steps are to the flow
-/// from each side: the PDUs that are written into new blocks, those that come, and the expiries of
-/// reordering timers.
+/// records tell. Where a step hands in no SDU its records stand where these steps are: those of
+/// each tell what both ends log in it, and just the SDUs that the loop submits in it; one that is
+/// handed in goes on by itself, by one call of its end and no record, or it is refused, by no step,
+/// and one record tells that. And they tell what goes by air on a channel in each direction, in
+/// this order: the PDUs that the sending end's PDCP gives RLC, the PDUs of RLC in its new blocks,
+/// and those in the blocks that come; a handover ends the life. Where they show the PDUs of the
+/// channel as those of unacknowledged RLC they tell, as `um_losses` reads them, just what these
+/// steps are to the flow from each side: the PDUs that are written into new blocks, those that
+/// come, and the expiries of reordering timers.
 pub fn lines_go_by_air()
     ensures { StepsGoByAir }
 {}
@@ -78,7 +81,8 @@ pub fn links_are_ordered()
 
 /// In all of them but a handover both ends stay in their cell, so that no life ends. In a handover
 /// both move under the same keys, and then only steps of the next life come, by which the test loop
-/// may return SDUs; first the records tell what the ends tell as they move.
+/// may return SDUs; first the records tell what the ends tell as they move, and those behind them
+/// stand where these steps are.
 pub fn lines_are_of_lives()
     ensures steps { StepsStay }
     ensures handovers { HandoversMove }

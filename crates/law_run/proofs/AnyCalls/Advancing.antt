@@ -102,7 +102,7 @@ drain_goes grant l within =
 
 -- ---- a timer expires, a block is forged
 
-none_if : (r : Option (List Event)) → IfSome r TellNone → TellNone (unwrap_or r [])
+pub none_if : (r : Option (List Event)) → IfSome r TellNone → TellNone (unwrap_or r [])
 none_if None p = refl
 none_if (Some events) p = p
 

@@ -41,23 +41,24 @@ use Rattle.law_run.specs.TwoEnds.Arrival.{renewals_in}
 use Rattle.promises.specs.Arrival.{entries_in}
 use Rattle.law_run.specs.TwoEnds.Logs.{Flight, no_flight}
 use Rattle.law_run.specs.TwoEnds.Staying.{is_handover_step, Stays, MovesOn}
-use Rattle.law_run.specs.TwoEnds.Going.{handed_in, sets, GoesOn, IsCallSince, IsStepSince}
+use Rattle.law_run.specs.TwoEnds.Going.{handed_in, is_submission, SubmissionsGoAlone, sets, GoesOn, IsCallSince}
+use Rattle.law_run.specs.TwoEnds.Going.{IsStepSince}
 use Rattle.promises.specs.Flows.{looped_at}
 use Rattle.law_run.specs.TwoEnds.Shown.{IsShown, anew}
 use Rattle.law_run.specs.TwoEnds.On.{until, IsHeld, IsFlying, IsStation, IsOn}
 use Rattle.law_run.proofs.TwoEnds.Flying.{keep_all}
-use Rattle.law_run.proofs.TwoEnds.Going.{Marks, calm, setting, none, Any, Block', Renewed, Unread, Behind}
+use Rattle.law_run.proofs.TwoEnds.Going.{Marks, calm, setting, handing, none, Any, Block', Renewed, Unread}
 use Rattle.law_run.proofs.TwoEnds.Steps.{by_sides}
-use Rattle.law_run.proofs.TwoEnds.Going.{Fits, IsAt, ended, first_whats, no_whats, goes_then}
+use Rattle.law_run.proofs.TwoEnds.Going.{Behind, Fits, IsAt, ended, first_whats, no_whats, goes_then}
 use Rattle.law_run.proofs.TwoEnds.Steps.{call_whats, goes_off}
 use Rattle.law_run.proofs.TwoEnds.Going.{Goes, station, with_station}
 use Rattle.law_run.proofs.TwoEnds.Steps.{goes_pass}
 use Rattle.law_run.proofs.TwoEnds.Moving.{fresh_at, left_told, moved_link, moved_so, handover_stage}
 use Rattle.law_run.proofs.TwoEnds.Resting.{call_rests, loops_rests, loop_set_rests, woken_rests, grown_rests}
 use Rattle.law_run.proofs.TwoEnds.Resting.{expires_rests, receivers_rest, senders_rest, discards_rests, reports_rests}
-use Rattle.law_run.proofs.TwoEnds.Resting.{listens_rests, submitting_hands}
+use Rattle.law_run.proofs.TwoEnds.Resting.{listens_rests, submitting_hands, submitting_alone}
 use Rattle.law_run.proofs.TwoEnds.Stages.{Both, Stands, Reaches, Stage, unlooped_goes, stage_then, Rests, rests_then}
-use Rattle.law_run.proofs.TwoEnds.Stages.{still_rests, shows_nothing, goes_plain, says_so, none_flown}
+use Rattle.law_run.proofs.TwoEnds.Stages.{still_rests, shows_nothing, goes_plain, says_so, none_flown, none_looped}
 use Rattle.law_run.proofs.TwoEnds.Stations.{Moment, Waits, Done, wait}
 use Rattle.law_run.proofs.TwoEnds.Visiting.{downlink_stage, uplink_stage}
 
@@ -84,7 +85,7 @@ both_on t m a same h = record {
 
 -- what a step may do
 abbrev marks : ℕ → LinkStep → Marks
-marks l s = record { sets = sets l s; moves = is_handover_step s }
+marks l s = record { sets = sets l s; moves = is_handover_step s; hands = is_submission s }
 
 same_behind : (c : Behind) (xs ys : List AccountEntry) → ended c ++ xs ≡ ended c ++ ys → xs ≡ ys
 same_behind Any xs ys e = e
@@ -96,9 +97,9 @@ same_behind Unread xs ys e = e
 goes_behind : (l t : ℕ) (c : Behind) (s : LinkStep) (k : Link) (a : Air) → ended c ≡ renewals_in s
     → first_whats c ≡ anew s
     → ((sent : Flight) → Fits c sent) → ((p : Cursor) → IsAt c p)
-    → Reaches l (marks l s) c Any (λ side n. handed_in side n s k) (Stands Nb (Waits t)) (Stands Ue (Waits t)) k
-    (step s k) a → (step s k).ttis ≡ t → Stays l s k a
-goes_behind l t c s k a ends firsts fits at r same = record {
+    → (r : Reaches l (marks l s) c Any (λ side n. handed_in side n s k) (Stands Nb (Waits t)) (Stands Ue (Waits t)) k
+    (step s k) a) → (step s k).ttis ≡ t → SubmissionsGoAlone s k r.goes.steps r.more → Stays l s k a
+goes_behind l t c s k a ends firsts fits at r same alone = record {
   goes = record {
     more = r.more;
     out_is = r.out_is;
@@ -118,6 +119,8 @@ goes_behind l t c s k a ends firsts fits at r same = record {
       sets_none = r.goes.sets_none;
       on = subst (IsOn (step s k)) (sym r.goes.air_is) (both_on t (step s k) r.air same r.both);
     };
+    along = λ off sent. r.goes.along off sent (fits sent);
+    submits = alone;
     stays = r.stays;
     shown = λ bits h from p.
         r.goes.whats_are bits from
@@ -128,9 +131,10 @@ goes_behind l t c s k a ends firsts fits at r same = record {
 }
 
 goes_so : (l t : ℕ) (s : LinkStep) (k : Link) (a : Air) → renewals_in s ≡ [] → anew s ≡ []
-    → Reaches l (marks l s) Any Any (λ side n. handed_in side n s k) (Stands Nb (Waits t)) (Stands Ue (Waits t)) k
-    (step s k) a → (step s k).ttis ≡ t → Stays l s k a
-goes_so l t s k a stays still r same = goes_behind l t Any s k a (sym stays) (sym still) (λ sent. tt) (λ p. tt) r same
+    → (r : Reaches l (marks l s) Any Any (λ side n. handed_in side n s k) (Stands Nb (Waits t)) (Stands Ue (Waits t)) k
+    (step s k) a) → (step s k).ttis ≡ t → SubmissionsGoAlone s k r.goes.steps r.more → Stays l s k a
+goes_so l t s k a stays still r same alone =
+    goes_behind l t Any s k a (sym stays) (sym still) (λ sent. tt) (λ p. tt) r same alone
 
 -- ---- a TTI ends
 
@@ -213,7 +217,7 @@ ttis_go l up_grant up down_grant down k a up_within down_within h =
     goes_so l (k.ttis + 1) (Tti up_grant up down_grant down) k a refl refl
     (by_visits l calm k.ttis up_grant (missed asleep up) down_grant (missed asleep down) k m
     (woken_rests l calm asleep k) up_within down_within a (on_both k a h))
-    (tti_adds up_grant up down_grant down k).ttis_is
+    (tti_adds up_grant up down_grant down k).ttis_is tt
 
 drains_go : (l grant : ℕ) (k : Link) (a : Air) → grant ≤ 9422 → IsOn k a → Stays l (Drains grant) k a
 unfolding drain_tti
@@ -221,7 +225,7 @@ drains_go l grant k a within h =
     let m = grows Ue (grows Nb (begins k)) in
     goes_so l (k.ttis + 1) (Drains grant) k a refl refl
     (by_visits l calm k.ttis grant intact grant intact k m (grown_rests l calm k) within within a (on_both k a h))
-    (drain_adds grant k).ttis_is
+    (drain_adds grant k).ttis_is tt
 
 -- ---- another number of visits empties the processes
 
@@ -277,7 +281,7 @@ emptied_by l set side maximum b some =
     goes_plain l set side [] none (SetVisits maximum) b tt some
     (record { adds_none = refl; moves_none = refl; unset = λ off. refl })
     (says_so side [] none (station side b).end (SetVisits maximum) tt refl none_flown refl refl (λ i. refl) (λ i. refl)
-    (λ sent. refl))
+    (λ sent. refl)) (λ off s i. none_looped [] (λ j. refl) s i)
 
 emptied_goes : (l : ℕ) (set : Marks) (side : Side) (maximum : ℕ) (a : Air) → 1 ≤ maximum
     → Goes l set [] (λ at n. looped_at at n []) (call_whats side l (station side a).end (SetVisits maximum)) a
@@ -373,7 +377,7 @@ stays_by : (l : ℕ) (c : Call) (k : Link) (a : Air) → renewals_in (LinkCalls 
     → Rests l (marks l (LinkCalls c)) k (after c k) → IsOn k a → Stays l (LinkCalls c) k a
 stays_by l c k a stays still f h =
     goes_so l k.ttis (LinkCalls c) k a stays still (f (Waits k.ttis) (Waits k.ttis) a (on_both k a h))
-    (calls_adds c k).ttis_is
+    (calls_adds c k).ttis_is tt
 
 calls_go : (l : ℕ) (c : Call) (k : Link) (a : Air) → IsCallSince l c → IsOn k a → Stays l (LinkCalls c) k a
 calls_go l (Bears config keys) k a g h =
@@ -390,7 +394,7 @@ calls_go l (Expires side lcid clock) k a g h =
 calls_go l (Forges side block) k a g h = absurd g
 calls_go l (HandsOver keys) k a g h =
     goes_behind l k.ttis Renewed (LinkCalls (HandsOver keys)) k a refl refl (λ sent. tt) (λ p. tt)
-    (handover_stage l false keys k k.ttis a (on_both k a h)) (calls_adds (HandsOver keys) k).ttis_is
+    (handover_stage l false keys k k.ttis a (on_both k a h)) (calls_adds (HandsOver keys) k).ttis_is tt
 calls_go l ReceiversExpire k a g h = stays_by l ReceiversExpire k a refl refl (receivers_rest l calm k) h
 calls_go l SendersExpire k a g h = stays_by l SendersExpire k a refl refl (senders_rest l calm k) h
 
@@ -400,9 +404,12 @@ pub steps_stay : (l : ℕ) (s : LinkStep) (k : Link) (a : Air) → IsStepSince l
 steps_stay l (Tti up_grant up down_grant down) k a g h = ttis_go l up_grant up down_grant down k a g.0 g.1 h
 steps_stay l (Drains grant) k a g h = drains_go l grant k a g h
 steps_stay l (Submit side lcid sdu) k a g h =
-    goes_so l k.ttis (Submit side lcid sdu) k a refl refl
-    (submitting_hands l calm side lcid sdu k (Waits k.ttis) (Waits k.ttis) a (on_both k a h))
+    let t = k.ttis in
+    let both = on_both k a h in
+    goes_so l t (Submit side lcid sdu) k a refl refl
+    (submitting_hands l handing refl side lcid sdu k (Waits t) (Waits t) a both)
     (submitting_adds side lcid sdu k).ttis_is
+    (submitting_alone l handing refl side lcid sdu k (Waits t) (Waits t) a both)
 steps_stay l (LinkCalls c) k a g h = calls_go l c k a g h
 
 pub steps_go : (l : ℕ) (s : LinkStep) (k : Link) (a : Air) → IsStepSince l s → IsOn k a → GoesOn l s k a
@@ -438,4 +445,5 @@ handovers_move l keys k a h =
             (both_on t (loops n) r.air (calls_adds (HandsOver keys) k).ttis_is r.both);
       };
       in_life = r.goes.stays refl;
+      along = λ sent. r.goes.along refl sent tt;
     }

@@ -36,11 +36,11 @@ use Rattle.um_losses.specs.Told.{told_in, place_behind}
 use Rattle.law_deliver.specs.UmGaps.Whats.{expiries}
 use Rattle.promises.specs.Flows.{loops_in, looped_at}
 use Rattle.law_run.specs.TwoEnds.Shown.{IsShown}
-use Rattle.law_run.specs.TwoEnds.Logs.{LogEntry, Hears, all_tell, log_in, Flight, process_of, logged}
+use Rattle.law_run.specs.TwoEnds.Logs.{LogEntry, Hears, all_tell, log_in, Flight, process_of, logged, flight_in}
 use Rattle.law_run.specs.TwoEnds.On.{until, IsStation}
 use Rattle.promises.specs.Arrival.{entries_in}
 use Rattle.law_run.proofs.TwoEnds.Showing.{Shows, got_own, got_hidden}
-use Rattle.law_run.proofs.TwoEnds.Going.{Marks, Behind, Any, Block', Fits, IsAt, flight_in, no_whats}
+use Rattle.law_run.proofs.TwoEnds.Going.{Marks, Behind, Any, Block', Fits, IsAt, no_whats}
 use Rattle.law_run.proofs.TwoEnds.Steps.{call_whats}
 use Rattle.law_run.proofs.TwoEnds.Going.{Goes, station, with_station, GoesBehind, TellNoAir}
 use Rattle.law_run.proofs.TwoEnds.Steps.{come_whats, Brings}
@@ -49,8 +49,9 @@ use Rattle.law_run.proofs.TwoEnds.Going.{none, goes_then}
 use Rattle.law_run.proofs.TwoEnds.Steps.{goes_call, goes_come, goes_off}
 use Rattle.law_run.proofs.TwoEnds.Stations.{Moment, Waits, Done, stays_by, left_by, lasts, turned_station, is_visiting}
 use Rattle.law_run.proofs.TwoEnds.Stages.{Both, Reaches, Stands, events_unlooped, unlooped_by, StageBehind, Stage}
-use Rattle.law_run.proofs.TwoEnds.Stages.{unlooped_goes}
-use Rattle.law_run.proofs.TwoEnds.Stages.{quiet_events, own_logged, stands_on}
+use Rattle.law_run.proofs.TwoEnds.Stages.{none_looped, unlooped_goes}
+use Rattle.law_run.proofs.TwoEnds.Stages.{own_logged, stands_on}
+use Rattle.law_run.proofs.TwoEnds.QuietEvents.{quiet_events}
 
 -- ---- a block comes that is under way
 
@@ -120,6 +121,9 @@ heard_stage l set octets v heard side R S k m d a f end_is come out kinds both =
     let told = heard_as side heard es in
     let b : Air = with_station side (record (station side a) { end = after_call e (Receive octets) }) a in
     let known = Block' (other side) octets v in
+    let unlooped : (n : ℕ) → loops_in n told ≡ [] = λ n.
+    unlooped_by n (records.Air (heard_by side) arriveds.Got heard) (map (records.Of side) es) refl
+    (events_unlooped n side es) in
     let es_are : es ≡ told_of e (Receive f.block.octets) =
     ap (λ (x : End). (received x octets).events) (sym end_is)
     ∙ ap (λ (o : List ℕ). (received e o).events) (sym f.octets_are) in
@@ -140,13 +144,11 @@ heard_stage l set octets v heard side R S k m d a f end_is come out kinds both =
       more = told;
       out_is = out;
       goes =
-          unlooped_goes l set told a b
-          (λ n. unlooped_by n (records.Air (heard_by side) arriveds.Got heard) (map (records.Of side) es) refl
-          (events_unlooped n side es))
+          unlooped_goes l set told a b unlooped
           (subst (λ (o : List ℕ). GoesBehind l set known told none (come_whats side l e f.block) a
           (with_station side (record (station side a) { end = after_call e (Receive o) }) a)) f.octets_are
           (goes_come l set known side told f.place f.block a refl brings f.there
-          (own_told side es (tells_no_loop d (Receive octets)) ∙ es_are) (other_told side es)));
+          (own_told side es (tells_no_loop d (Receive octets)) ∙ es_are) (other_told side es) unlooped));
       ws = come_whats side l e f.block;
       left = λ sent fits. tt;
       stands = λ c at. tt;
@@ -246,6 +248,7 @@ visit_by l set side t told k m b calling end_is come x =
       hears = λ bits j sent. x.hears bits j sent;
       logs = λ sent. ap (λ (e : End). log_in side 0 e (Visits t)) end_is ∙ x.logs sent come;
     })
+    (λ off s n. none_looped told x.unlooped s n)
 
 visit_goes : (l : ℕ) (set : Marks) (side : Side) (t : Turn) (told : List Record) (k m : Link) (a : Air)
     → Stands side (Waits t.tti) (station side a) → (station side a).end ≡ end_of side k → Visited l side t told k m

@@ -131,6 +131,7 @@ by_goes l told submitted said set whole m a x off =
       stays = λ e. absurd cc;
       reads = λ bits from sent fits. absurd fits;
       logs = λ sent fits. absurd fits;
+      along = λ off sent fits. absurd fits;
       whats_are = λ bits from. refl;
       air_is = refl;
     }

@@ -23,9 +23,12 @@ use Rattle.um_losses.specs.declared.cursor.Cursor.{Cursor}
 use Rattle.um_losses.specs.declared.flow.Happening.{Happening}
 use Rattle.um_losses.specs.declared.flow.Happening.TheVariants.{LifeRestarted}
 use Rattle.law_deliver.specs.UmGaps.Whats.{whats_in, whats}
-use Rattle.law_run.specs.TwoEnds.Logs.{LogEntry, log_at, log_of, Flight, process_of, process_last, flight_behind}
-use Rattle.law_run.specs.TwoEnds.Logs.{no_flight, logged_at, logged, LogAlone}
+use Rattle.law_run.specs.TwoEnds.Along.{AreAlong}
+use Rattle.law_run.specs.TwoEnds.Logs.{LogEntry, log_at, log_of, Flight, process_of, no_flight, last_in, flight_in}
+use Rattle.law_run.specs.TwoEnds.Logs.{logged, LogAlone}
 use Rattle.law_run.specs.TwoEnds.Staying.{AreInLife}
+use Rattle.promises.specs.Flows.{looped_at}
+use Rattle.law_run.proofs.TwoEnds.Along.{logged_more, along_more}
 
 -- ---- the end of a side
 
@@ -43,7 +46,7 @@ pub lives_more : (a : Air) (xs ys : List AirStep) → lives (xs ++ ys) a ≡ liv
 lives_more a [] ys = refl
 lives_more a (x ∷ xs) ys = lives_more (lives_on a x) xs ys
 
-living_more : (l : ℕ) (a : Air) (xs ys : List AirStep) → AreLiving l a xs → AreLiving l (lives xs a) ys
+pub living_more : (l : ℕ) (a : Air) (xs ys : List AirStep) → AreLiving l a xs → AreLiving l (lives xs a) ys
     → AreLiving l a (xs ++ ys)
 living_more l a [] ys g h = h
 living_more l a (x ∷ xs) ys g h = (g.0, living_more l (lives_on a x) xs ys g.1 h)
@@ -100,19 +103,27 @@ Submits given steps a side = (n : ℕ) → was_submitted n (all_calls side steps
 abbrev pub Unset : ℕ → List AirStep → Air → Side → Type 0
 Unset l steps a side = SetNone l (all_calls side steps a)
 
--- whether they may set one, and whether both ends may move
+-- whether they may set one, whether both ends may move, and whether a line may hand in an SDU
 pub record Marks : Type 0 where
   pub sets : Bool
   pub moves : Bool
+  pub hands : Bool
 
 abbrev pub calm : Marks
-calm = record { sets = false; moves = false }
+calm = record { sets = false; moves = false; hands = false }
 
 abbrev pub setting : Bool → Marks
-setting set = record { sets = set; moves = false }
+setting set = record { sets = set; moves = false; hands = false }
 
 abbrev pub moving : Bool → Marks
-moving set = record { sets = set; moves = true }
+moving set = record { sets = set; moves = true; hands = false }
+
+abbrev pub handing : Marks
+handing = record { sets = false; moves = false; hands = true }
+
+-- what each side is submitted is what the test loop submits, where no line hands in an SDU
+abbrev pub IsLooped : Marks → List Record → (Side → ℕ → List (List ℕ)) → Type 0
+IsLooped set told given = set.hands ≡ false → (side : Side) (n : ℕ) → given side n ≡ looped_at side n told
 
 in_life_more : (xs ys : List AirStep) → AreInLife xs → AreInLife ys → AreInLife (xs ++ ys)
 in_life_more [] ys h k = k
@@ -151,23 +162,6 @@ first_whats (Block' side octets process) = []
 first_whats Renewed = LifeRestarted ∷ []
 first_whats Unread = []
 
--- the block that was sent last behind records
-abbrev pub last_in : List Record → List ℕ → List ℕ
-last_in [] sent = sent
-last_in (one ∷ told) sent = last_in told (sent_last one sent)
-
--- with the process of each side
-abbrev pub process_in : Side → List Record → ℕ → ℕ
-process_in side [] before = before
-process_in side (one ∷ told) before = process_in side told (process_last side one before)
-
-abbrev pub flight_in : List Record → Flight → Flight
-flight_in told sent = record {
-  nb = process_in Nb told sent.nb;
-  ue = process_in Ue told sent.ue;
-  octets = last_in told sent.octets;
-}
-
 abbrev pub Reads : ℕ → Behind → List Record → List AirStep → Air → Type 0
 Reads l c told steps a = (bits : ℕ) (from : Side) (sent : Flight) → Fits c sent
     → happened bits l from steps a ≡ ended c ++ entries_in bits l from sent.octets told
@@ -190,6 +184,7 @@ pub record GoesBehind (l : ℕ) (set : Marks) (c : Behind) (told : List Record) 
   pub stays : set.moves ≡ false → AreInLife steps
   pub reads : Reads l c told steps a
   pub logs : (sent : Flight) → Fits c sent → log_of steps a ≡ logged sent told
+  pub along : set.hands ≡ false → (sent : Flight) → Fits c sent → AreAlong sent steps a told
   pub whats_are : (bits : ℕ) (from : Side) → whats from l bits steps a ≡ ws bits from
   pub air_is : lives steps a ≡ b
 
@@ -230,18 +225,6 @@ log_more [] ys a = refl
 log_more (x ∷ xs) ys a =
     ap (λ (hs : List LogEntry). log_at a x ++ hs) (log_more xs ys (lives_on a x))
     ∙ sym (append_assoc (log_at a x) (log_of xs (lives_on a x)) (log_of ys (lives xs (lives_on a x))))
-
-pub flight_more : (f g : List Record) (sent : Flight) → flight_in g (flight_in f sent) ≡ flight_in (f ++ g) sent
-flight_more [] g sent = refl
-flight_more (one ∷ f) g sent = flight_more f g (flight_behind one sent)
-
-pub logged_more : (sent : Flight) (f g : List Record)
-    → logged sent (f ++ g) ≡ logged sent f ++ logged (flight_in f sent) g
-logged_more sent [] g = refl
-logged_more sent (one ∷ f) g =
-    ap (λ (hs : List LogEntry). logged_at sent one ++ hs) (logged_more (flight_behind one sent) f g)
-    ∙ sym (append_assoc (logged_at sent one) (logged (flight_behind one sent) f)
-    (logged (flight_in f (flight_behind one sent)) g))
 
 pub behind_then : (l : ℕ) (set : Marks) (c d : Behind) (f g : List Record) (x y : Side → ℕ
     → List (List ℕ)) {v w : Whats} (a b e : Air) → ended d ≡ []
@@ -291,6 +274,10 @@ behind_then l set c d f g x y {v} {w} a b e none left p q =
           log_more ss ts a
           ∙ (ap (λ (hs : List LogEntry). hs ++ log_of ts z) (p.logs sent fits)
           ∙ (ap (λ (hs : List LogEntry). logged sent f ++ hs) second ∙ sym (logged_more sent f g)));
+      along = λ off sent fits.
+          let second = q.along off (flight_in f sent) (left sent fits) in
+          along_more sent ss ts a f g (p.along off sent fits)
+          (subst (λ (w : Air). AreAlong (flight_in f sent) ts w g) (sym p.air_is) second);
       whats_are = λ bits from.
           let second = ap (λ (u : Air). whats from l bits ts u) p.air_is ∙ q.whats_are bits from in
           whats_more l bits from a ss ts
@@ -331,7 +318,7 @@ pub goes_then : (l : ℕ) (set : Marks) (f g : List Record) (x y : Side → ℕ 
 goes_then l set f g x y {v} {w} a b c p q = behind_then l set Any Any f g x y a b c refl (λ sent fits. tt) p q
 
 -- where nothing has to be known, it may be
-pub weaken : (l : ℕ) (set : Marks) (c : Behind) (told : List Record) (given : Side → ℕ
+unfoldable pub weaken : (l : ℕ) (set : Marks) (c : Behind) (told : List Record) (given : Side → ℕ
     → List (List ℕ)) {ws : Whats} (a b : Air) → ended c ≡ [] → Goes l set told given ws a b
     → GoesBehind l set c told given ws a b
 weaken l set c told given {ws} a b open' p = record {
@@ -344,12 +331,13 @@ weaken l set c told given {ws} a b open' p = record {
   reads = λ bits from sent fits. p.reads bits from sent tt
       ∙ sym (ap (λ (hs : List AccountEntry). hs ++ entries_in bits l from sent.octets told) open');
   logs = λ sent fits. p.logs sent tt;
+  along = λ off sent fits. p.along off sent tt;
   whats_are = p.whats_are;
   air_is = p.air_is;
 }
 
 -- the same SDUs in another form
-pub goes_as : {c : Behind} (l : ℕ) (set : Marks) (told : List Record) (x y : Side → ℕ
+unfoldable pub goes_as : {c : Behind} (l : ℕ) (set : Marks) (told : List Record) (x y : Side → ℕ
     → List (List ℕ)) {ws : Whats} (a b : Air) → ((side : Side) (n : ℕ) → x side n ≡ y side n)
     → GoesBehind l set c told x ws a b → GoesBehind l set c told y ws a b
 goes_as {c} l set told x y {ws} a b same p =
@@ -362,8 +350,27 @@ goes_as {c} l set told x y {ws} a b same p =
       stays = p.stays;
       reads = p.reads;
       logs = p.logs;
+      along = p.along;
       whats_are = p.whats_are;
       air_is = p.air_is;
+    }
+
+-- the same air in another form
+unfoldable pub goes_to : (l : ℕ) (set : Marks) (told : List Record) (given : Side → ℕ
+    → List (List ℕ)) {ws : Whats} (a b e : Air) → b ≡ e → Goes l set told given ws a b → Goes l set told given ws a e
+goes_to l set told given {ws} a b e same p =
+    record {
+      steps = p.steps;
+      living = p.living;
+      told_is = p.told_is;
+      submitted_is = p.submitted_is;
+      sets_none = p.sets_none;
+      stays = p.stays;
+      reads = p.reads;
+      logs = p.logs;
+      along = p.along;
+      whats_are = p.whats_are;
+      air_is = p.air_is ∙ same;
     }
 
 abbrev pub none : Side → ℕ → List (List ℕ)
@@ -374,10 +381,10 @@ abbrev pub TellNoAir : List Record → Type 0
 TellNoAir told = (bits l : ℕ) (from : Side) (sent : List ℕ) → entries_in bits l from sent told ≡ []
 
 -- records that tell nothing of an end
-pub goes_none : (l : ℕ) (set : Marks) (c : Behind) (told : List Record) (a : Air) → ended c ≡ []
+unfoldable pub goes_none : (l : ℕ) (set : Marks) (c : Behind) (told : List Record) (a : Air) → ended c ≡ []
     → ((side : Side) → events_of side told ≡ []) → TellNoAir told → ((sent : Flight) → logged sent told ≡ [])
-    → GoesBehind l set c told none no_whats a a
-goes_none l set c told a open' untold unflown unlogged = record {
+    → ((side : Side) (n : ℕ) → looped_at side n told ≡ []) → GoesBehind l set c told none no_whats a a
+goes_none l set c told a open' untold unflown unlogged unlooped = record {
   steps = [];
   living = tt;
   told_is = untold;
@@ -388,6 +395,7 @@ goes_none l set c told a open' untold unflown unlogged = record {
       λ bits from sent fits. sym (ap (λ (hs : List AccountEntry). hs ++ entries_in bits l from sent.octets told) open'
       ∙ unflown bits l from sent.octets);
   logs = λ sent fits. sym (unlogged sent);
+  along = λ off sent fits. (unlogged sent, unlooped);
   whats_are = λ bits from. refl;
   air_is = refl;
 }

@@ -27,17 +27,19 @@ use Rattle.law_deliver.specs.AmFlow.Air.{Station, Air, begins, outset, HasCome}
 use Rattle.law_deliver.proofs.AmFlow.Stations.{come_more}
 use Rattle.promises.specs.Flows.{loops_in}
 use Rattle.law_run.specs.TwoEnds.Shown.{IsShown}
-use Rattle.law_run.specs.TwoEnds.Logs.{LogEntry, all_tell, Flight, logged}
+use Rattle.law_run.specs.TwoEnds.Logs.{LogEntry, all_tell, Flight, logged, last_in, flight_in}
 use Rattle.law_run.specs.TwoEnds.On.{until, block_at, IsStation}
 use Rattle.law_words.specs.Arrivals.{AccountEntry}
 use Rattle.law_node.proofs.Silences.{writes_nothing}
 use Rattle.promises.specs.Arrival.{entries_in}
-use Rattle.law_run.proofs.TwoEnds.Going.{moving, Any, Renewed, last_in, flight_in, TellNoAir, tells_more, logged_more}
+use Rattle.law_run.proofs.TwoEnds.Along.{logged_more, looped_more}
+use Rattle.law_run.proofs.TwoEnds.Going.{moving, Any, Renewed, TellNoAir, tells_more}
 use Rattle.law_run.proofs.TwoEnds.Steps.{goes_move, move_whats}
 use Rattle.law_run.proofs.TwoEnds.Showing.{in_both, events_own, events_hidden}
 use Rattle.law_run.proofs.TwoEnds.Resting.{loops_rests}
-use Rattle.law_run.proofs.TwoEnds.Stages.{Both, StageBehind, stages_then, quiet_events, Stands, events_unlooped}
-use Rattle.law_run.proofs.TwoEnds.Stages.{looped_more, unlooped_goes, own_logged, StayShown}
+use Rattle.law_run.proofs.TwoEnds.Stages.{Both, StageBehind, stages_then, Stands, events_unlooped}
+use Rattle.law_run.proofs.TwoEnds.QuietEvents.{quiet_events}
+use Rattle.law_run.proofs.TwoEnds.Stages.{unlooped_goes, own_logged, StayShown}
 use Rattle.law_run.proofs.TwoEnds.Stations.{Waits}
 
 -- ---- processes that hold nothing, with 1 to 28 visits of a block
@@ -180,7 +182,7 @@ move_stage l set keys k t a h =
       more = left_told k;
       out_is = m.out_is;
       goes = unlooped_goes l (moving set) (left_told k) a b m.unlooped
-          (goes_move l set (left_told k) keys a m.unflown m.nb_told m.ue_told m.logged_are);
+          (goes_move l set (left_told k) keys a m.unflown m.nb_told m.ue_told m.logged_are m.unlooped);
       ws = move_whats l a keys;
       left = λ sent fits. tt;
       stands = λ p at. tt;

@@ -38,11 +38,13 @@ use Rattle.law_run.specs.AnyCalls.Runs.{Submit as StepSubmit}
 use Rattle.promises.specs.Records.{sdu_of}
 use Rattle.law_run.proofs.AnyCalls.Going.{own_told, other_told, Seen, told_seen}
 use Rattle.law_deliver.specs.AmChannel.Delivery.{accepted, submitted_in}
+use Rattle.law_deliver.specs.AmFlow.Air.{Air}
+use Rattle.law_run.specs.TwoEnds.Along.{IsHandedIn}
 use Rattle.law_run.specs.TwoEnds.Going.{handed_in}
 use Rattle.promises.specs.Flows.{looped_at}
 use Rattle.um_losses.specs.declared.cursor.Cursor.{Cursor}
 use Rattle.um_losses.specs.Told.{told_in}
-use Rattle.law_run.proofs.TwoEnds.Going.{Marks, none}
+use Rattle.law_run.proofs.TwoEnds.Going.{Marks, none, goes_as}
 use Rattle.law_run.proofs.TwoEnds.Steps.{Says, IsPlayed, by_sides, call_whats}
 use Rattle.law_node.specs.Writing.{TellNone}
 use Rattle.law_node.proofs.Silences.{writes_nothing}
@@ -50,10 +52,12 @@ use Rattle.bearer_types.specs.declared.event.Event.TheVariants.{Drop}
 use Rattle.l2_types.specs.declared.event.Lost.TheVariants as losts
 use Rattle.promises.specs.Events.{told_on}
 use Rattle.promises.specs.Given.{entries_given}
-use Rattle.law_run.proofs.TwoEnds.Stages.{says_so, none_flown, none_if as hushed, unwritten, quiet_events, Stands}
+use Rattle.law_run.proofs.TwoEnds.Stages.{says_so, none_flown, Stands}
+use Rattle.law_run.proofs.TwoEnds.QuietEvents.{none_if as hushed, unwritten, quiet_events}
 use Rattle.law_run.proofs.TwoEnds.Stages.{Hands, hands_none, Rests, rests_then, events_unlooped, says_stage, says_rests}
 use Rattle.law_run.proofs.TwoEnds.Stages.{still_rests, IsPlain, says_nothing, shows_nothing, shows_events, called_nb}
-use Rattle.law_run.proofs.TwoEnds.Stages.{called_ue, called_rests, plain_log, own_logged}
+use Rattle.law_run.proofs.TwoEnds.Stages.{called_ue, called_rests, plain_log, own_logged, Both, nb_calls, ue_calls}
+use Rattle.law_run.proofs.TwoEnds.Stages.{says_alone}
 use Rattle.law_run.proofs.TwoEnds.Stations.{Moment}
 
 -- ---- an end's call
@@ -73,6 +77,7 @@ call_rests l set Nb c k plain g life keeps untold unsaid =
       other_is = refl;
       out_is = sym (append-nil k.out);
       says = says_nothing Nb k.nb c plain life.moves_none untold unsaid;
+      unhanded = λ off s i. refl;
       kinds_are = refl;
       shown = shows_nothing l Nb k.nb c plain untold;
     })
@@ -86,6 +91,7 @@ call_rests l set Ue c k plain g life keeps untold unsaid =
       other_is = refl;
       out_is = sym (append-nil k.out);
       says = says_nothing Ue k.ue c plain life.moves_none untold unsaid;
+      unhanded = λ off s i. refl;
       kinds_are = refl;
       shown = shows_nothing l Ue k.ue c plain untold;
     })
@@ -112,6 +118,7 @@ tells_rests l set Nb c k plain g life keeps unsaid quiet =
       other_is = ap (λ (s : Seen). s.ue) same;
       out_is = ap (λ (s : Seen). s.out) same;
       says = x;
+      unhanded = λ off s i. refl;
       kinds_are = ap (λ (s : Seen). s.kinds) same;
       shown = shows_events l Nb k.nb c plain;
     })
@@ -132,6 +139,7 @@ tells_rests l set Ue c k plain g life keeps unsaid quiet =
       other_is = ap (λ (s : Seen). s.nb) same;
       out_is = ap (λ (s : Seen). s.out) same;
       says = x;
+      unhanded = λ off s i. refl;
       kinds_are = ap (λ (s : Seen). s.kinds) same;
       shown = shows_events l Ue k.ue c plain;
     })
@@ -198,6 +206,7 @@ module _ (l : ℕ) (set : Marks) where
         other_is = refl;
         out_is = refl;
         says = x;
+        unhanded = λ off s i. refl;
         kinds_are = refl;
         shown =
             λ bits. by_sides (λ from. (p : Cursor) → told_in (sent_by from) l p told
@@ -397,18 +406,18 @@ module _ (l : ℕ) (set : Marks) where
   unfolding listens
   listens_rests c k = still_rests l set k (listens c k) refl refl refl (λ b s. s)
 
-  submits_by_hands : (broken : Option SubmitRefusal) (side : Side) (lcid : ℕ) (sdu : List ℕ) (k : Link)
-      → refusal lcid sdu (end_of side k) ≡ broken → (n u : Moment)
+  submits_by_hands : set.hands ≡ true → (broken : Option SubmitRefusal) (side : Side) (lcid : ℕ) (sdu : List ℕ)
+      (k : Link) → refusal lcid sdu (end_of side k) ≡ broken → (n u : Moment)
       → Hands l set (handed_by side lcid sdu k) (Stands Nb n) (Stands Ue u) (Stands Nb n) (Stands Ue u) k
       (submits_by broken side lcid sdu k)
-  submits_by_hands (Some broken) side lcid sdu k e n u =
+  submits_by_hands on (Some broken) side lcid sdu k e n u =
       let P = Stands Nb n in
       let Q = Stands Ue u in
       hands_none l set (handed_by side lcid sdu k) P Q P Q k (submits_by (Some broken) side lcid sdu k)
       (refused_none side lcid sdu k broken e)
       (says_stage l set (records.Refused side lcid (no_place broken)) k P Q (λ bits m from sent. refl) refl refl
       (λ i. refl) (λ c. refl))
-  submits_by_hands None Nb lcid sdu k e n u =
+  submits_by_hands on None Nb lcid sdu k e n u =
       let given = handed_by Nb lcid sdu k in
       let x : Says Nb [] (λ s i. given s i ++ looped_at s i []) k.nb (Submit lcid sdu) =
       says_so Nb [] (λ s i. given s i ++ looped_at s i []) k.nb (Submit lcid sdu) tt refl none_flown refl refl
@@ -423,10 +432,11 @@ module _ (l : ℕ) (set : Marks) where
         other_is = refl;
         out_is = sym (append-nil k.out);
         says = x;
+        unhanded = λ off s i. absurd cc;
         kinds_are = refl;
         shown = shows_nothing l Nb k.nb (Submit lcid sdu) tt refl;
       })
-  submits_by_hands None Ue lcid sdu k e n u =
+  submits_by_hands on None Ue lcid sdu k e n u =
       let given = handed_by Ue lcid sdu k in
       let x : Says Ue [] (λ s i. given s i ++ looped_at s i []) k.ue (Submit lcid sdu) =
       says_so Ue [] (λ s i. given s i ++ looped_at s i []) k.ue (Submit lcid sdu) tt refl none_flown refl refl
@@ -441,12 +451,46 @@ module _ (l : ℕ) (set : Marks) where
         other_is = refl;
         out_is = sym (append-nil k.out);
         says = x;
+        unhanded = λ off s i. absurd cc;
         kinds_are = refl;
         shown = shows_nothing l Ue k.ue (Submit lcid sdu) tt refl;
       })
 
-  pub submitting_hands : (side : Side) (lcid : ℕ) (sdu : List ℕ) (k : Link) (n u : Moment)
+  pub submitting_hands : set.hands ≡ true → (side : Side) (lcid : ℕ) (sdu : List ℕ) (k : Link) (n u : Moment)
       → Hands l set (handed_by side lcid sdu k) (Stands Nb n) (Stands Ue u) (Stands Nb n) (Stands Ue u) k
       (submitting side lcid sdu k)
   unfolding submitting
-  submitting_hands side lcid sdu k = submits_by_hands (refusal lcid sdu (end_of side k)) side lcid sdu k refl
+  submitting_hands on side lcid sdu k = submits_by_hands on (refusal lcid sdu (end_of side k)) side lcid sdu k refl
+
+  -- by one call of its end and no record, or by no call and one record
+  submits_by_alone : (on : set.hands ≡ true) (broken : Option SubmitRefusal) (side : Side) (lcid : ℕ) (sdu : List ℕ)
+      (k : Link) (e : refusal lcid sdu (end_of side k) ≡ broken) (n u : Moment) (a : Air)
+      (h : Both (Stands Nb n) (Stands Ue u) k a)
+      → let r = submits_by_hands on broken side lcid sdu k e n u a h in
+      IsHandedIn side lcid sdu k r.goes.steps r.more
+  unfolding submits_by_hands hands_none goes_as
+  submits_by_alone on (Some broken) side lcid sdu k e n u a h =
+      let x = says_alone l set (records.Refused side lcid (no_place broken)) k (Stands Nb n) (Stands Ue u)
+      (λ bits m from sent. refl) refl refl (λ i. refl) (λ c. refl) a h in
+      record {
+        taken = λ is. let no : Some broken ≡ None = sym e ∙ is in absurd cc;
+        refused = λ why is.
+            let same : Some broken ≡ Some why = sym e ∙ is in
+            let equal : broken ≡ why = cc in
+            (x.0, x.1 ∙ ap (λ (w : SubmitRefusal). records.Refused side lcid (no_place w) ∷ []) equal);
+      }
+  submits_by_alone on None Nb lcid sdu k e n u a h = record {
+    taken = λ is. nb_calls l set (Submit lcid sdu) [] _ k _ n (Stands Ue u) _ _ a h;
+    refused = λ why is. let no : None ≡ Some why = sym e ∙ is in absurd cc;
+  }
+  submits_by_alone on None Ue lcid sdu k e n u a h = record {
+    taken = λ is. ue_calls l set (Submit lcid sdu) [] _ k _ (Stands Nb n) u _ _ a h;
+    refused = λ why is. let no : None ≡ Some why = sym e ∙ is in absurd cc;
+  }
+
+  pub submitting_alone : (on : set.hands ≡ true) (side : Side) (lcid : ℕ) (sdu : List ℕ) (k : Link) (n u : Moment)
+      (a : Air) (h : Both (Stands Nb n) (Stands Ue u) k a)
+      → let r = submitting_hands on side lcid sdu k n u a h in IsHandedIn side lcid sdu k r.goes.steps r.more
+  unfolding submitting submitting_hands
+  submitting_alone on side lcid sdu k n u a h =
+      submits_by_alone on (refusal lcid sdu (end_of side k)) side lcid sdu k refl n u a h

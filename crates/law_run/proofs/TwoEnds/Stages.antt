@@ -1,11 +1,9 @@
 -- Stages of a link that go by steps of its ends: of no call, of one, and one stage behind the other.
 use Rattle.std.proofs.Common.{◌≡◌, ℕ, Bool, true, false, cond, Some, None, not, ◌&&◌, if◌then◌else◌, List, [], ◌∷◌}
 use Rattle.std.proofs.Common.{◌++◌, map, append_assoc, append-nil, refl, ap, sym, subst, ◌∙◌}
-use Rattle.std.proofs.lemmas.List.{map-append}
-use Rattle.std.proofs.lemmas.List.Elements.{filter-append}
-use Rattle.std.specs.List.{filter, flat_map}
+use Rattle.std.specs.List.{filter}
 use Rattle.air_link.specs.Link.{Link, says, end_of}
-use Rattle.bearer_types.specs.Sides.{other, sent_by, is_same}
+use Rattle.bearer_types.specs.Sides.{other, sent_by}
 use Rattle.air_record.specs.declared.record.Record.{Record}
 use Rattle.air_record.specs.declared.record.Record.TheVariants as records
 use Rattle.air_record.specs.declared.record.Arrived.TheVariants as arriveds
@@ -19,14 +17,12 @@ use Rattle.law_node.specs.Calls.{Visits, Grants, Granted, Assigned, Pass, Receiv
 use Rattle.law_node.specs.Calls.{after as after_call}
 use Rattle.law_node.specs.Telling.{told_of}
 use Rattle.promises.specs.Records.{is_looped, event_of, events_of, sdu_of}
-use Rattle.law_words.specs.Arrivals.{Given, AccountEntry}
-use Rattle.promises.specs.Given.{given_in, entries_of, entries_given}
-use Rattle.promises.specs.Events.{is_on, told_on, is_of_writing, is_of_loop, TellNoLoop}
+use Rattle.law_words.specs.Arrivals.{AccountEntry}
+use Rattle.promises.specs.Events.{is_of_loop, TellNoLoop}
 use Rattle.law_deliver.specs.AmChannel.Arrival.{said_in, heard_in}
-use Rattle.bearer_types.specs.declared.event.Event.TheVariants as events
 use Rattle.law_node.specs.Bearers.{keys_in}
-use Rattle.law_node.specs.Writing.{TellNone}
-use Rattle.law_deliver.specs.AmFlow.Air.{Station, Air, calls, IsCalling}
+use Rattle.law_deliver.specs.AmChannel.Lives.{InLife}
+use Rattle.law_deliver.specs.AmFlow.Air.{Station, Air, Calls, AtNb, AtUe, calls, IsCalling}
 use Rattle.law_deliver.specs.AmChannel.Delivery.{submitted_in}
 use Rattle.um_losses.specs.declared.cursor.Cursor.{Cursor}
 use Rattle.um_losses.specs.declared.flow.Happening.{Happening}
@@ -35,17 +31,18 @@ use Rattle.um_losses.specs.Told.{picked, told_in, place_behind}
 use Rattle.law_deliver.specs.UmGaps.Whats.{sent_in, expiries}
 use Rattle.promises.specs.Flows.{loops_in, looped_at}
 use Rattle.law_run.specs.TwoEnds.Shown.{IsShown}
-use Rattle.law_run.specs.TwoEnds.Logs.{LogEntry, Tells, all_tell, log_in, Flight, logged_at, logged}
+use Rattle.law_run.specs.TwoEnds.Logs.{LogEntry, Tells, all_tell, log_in, Flight, logged_at, logged, flight_in}
 use Rattle.law_run.specs.TwoEnds.On.{IsStation}
-use Rattle.promises.specs.Arrival.{only_if, entries_at, entries_in}
+use Rattle.promises.specs.Arrival.{entries_at}
+use Rattle.law_run.proofs.TwoEnds.Along.{flight_more, looped_more}
 use Rattle.law_run.proofs.TwoEnds.Showing.{in_then, behind_then as place_then, events_own, events_hidden}
 use Rattle.law_run.proofs.TwoEnds.Going.{Marks, station, with_station, Behind, Any, Block', Renewed, Unread, Fits, IsAt}
-use Rattle.law_run.proofs.TwoEnds.Going.{ended, first_whats, flight_in, flight_more, Whats, no_whats, GoesBehind, Goes}
+use Rattle.law_run.proofs.TwoEnds.Going.{ended, first_whats, IsLooped, Whats, no_whats, GoesBehind, Goes, goes_to}
 use Rattle.law_run.proofs.TwoEnds.Steps.{call_whats}
 use Rattle.law_run.proofs.TwoEnds.Going.{TellNoAir, none, weaken, behind_then, goes_as}
 use Rattle.law_run.proofs.TwoEnds.Steps.{Says, IsPlayed, by_sides}
 use Rattle.law_run.proofs.TwoEnds.Going.{goes_none}
-use Rattle.law_run.proofs.TwoEnds.Steps.{goes_call}
+use Rattle.law_run.proofs.TwoEnds.Steps.{goes_call, call_steps}
 use Rattle.law_run.proofs.TwoEnds.Stations.{Moment, Waits, Done, wait, IsIdle, station_goes}
 
 -- ---- a link on its way, and its air
@@ -76,13 +73,6 @@ unlooped_by n one more e rest = is_handed (is_looped n one) one (filter (is_loop
 pub events_unlooped : (n : ℕ) (side : Side) (es : List Event) → loops_in n (map (records.Of side) es) ≡ []
 events_unlooped n side [] = refl
 events_unlooped n side (e ∷ es) = events_unlooped n side es
-
-pub looped_more : (side : Side) (n : ℕ) (f g : List Record)
-    → looped_at side n f ++ looped_at side n g ≡ looped_at side n (f ++ g)
-looped_more Nb n f g = refl
-looped_more Ue n f g =
-    sym (ap (map sdu_of) (filter-append (is_looped n) f g)
-    ∙ map-append sdu_of (filter (is_looped n) f) (filter (is_looped n) g))
 
 pub none_looped : (told : List Record) → ((n : ℕ) → loops_in n told ≡ []) → (side : Side) (n : ℕ)
     → [] ≡ looped_at side n told
@@ -172,8 +162,9 @@ pub stage_then : (l : ℕ) (set : Marks) (P Q R S T U : Station → Type 0) (k m
 stage_then l set P Q R S T U k m p f g = stages_then l set Any Any Any refl P Q R S T U k m p f g
 
 -- SDUs that are none
-pub hands_none : (l : ℕ) (set : Marks) (handed : Side → ℕ → List (List ℕ)) (P Q R S : Station → Type 0) (k m : Link)
-    → ((side : Side) (n : ℕ) → [] ≡ handed side n) → Stage l set P Q R S k m → Hands l set handed P Q R S k m
+unfoldable pub hands_none : (l : ℕ) (set : Marks) (handed : Side → ℕ → List (List ℕ)) (P Q R S : Station → Type 0)
+    (k m : Link) → ((side : Side) (n : ℕ) → [] ≡ handed side n) → Stage l set P Q R S k m
+    → Hands l set handed P Q R S k m
 hands_none l set handed P Q R S k m same f a h =
     let r = f a h in
     record {
@@ -226,7 +217,8 @@ told_stage l set c d told k m P Q open' left stands unflown silent nb ue out unt
   more = told;
   out_is = out;
   ws = no_whats;
-  goes = unlooped_goes l set told a a unlooped (goes_none l set c told a open' untold unflown silent);
+  goes = unlooped_goes l set told a a unlooped (goes_none l set c told a open' untold unflown silent
+      (λ side n. sym (none_looped told unlooped side n)));
   left = left;
   stands = stands;
   shown = λ bits s from p at. with_none c open' (told_in (sent_by from) l p told) ∙ still (sent_by from) p;
@@ -338,16 +330,18 @@ plain_calling s (Move keys) p = tt
 
 pub goes_plain : (l : ℕ) (set : Marks) (side : Side) (told : List Record) (given : Side → ℕ
     → List (List ℕ)) (c : EndCall) (a : Air) → IsPlain c → IsGivenTo c → IsPlayed l set c
-    → Says side told given (station side a).end c
+    → Says side told given (station side a).end c → IsLooped set told given
     → Goes l set told given (call_whats side l (station side a).end c) a
     (with_station side (record (station side a) { end = after_call (station side a).end c }) a)
-goes_plain l set side told given c a p g life x =
-    subst (λ (s : Station). Goes l set told given (call_whats side l (station side a).end c) a
-    (with_station side s a)) (plain_calls (station side a) c p)
-    (goes_call l set side told given c a g life (plain_calling (station side a) c p) x)
+goes_plain l set side told given c a p g life x looped =
+    let s = station side a in
+    goes_to l set told given a (with_station side (calls s c) a)
+    (with_station side (record s { end = after_call s.end c }) a)
+    (ap (λ (t : Station). with_station side t a) (plain_calls s c p))
+    (goes_call l set side told given c a g life (plain_calling s c p) x looped)
 
 -- what the call leaves of a link, the records that it adds, and the SDUs that are handed in with it
-pub record Called (l : ℕ) (side : Side) (c : EndCall) (told : List Record) (handed : Side → ℕ
+pub record Called (l : ℕ) (set : Marks) (side : Side) (c : EndCall) (told : List Record) (handed : Side → ℕ
     → List (List ℕ)) (k m : Link) : Type 0 where
   pub plain : IsPlain c
   pub given : IsGivenTo c
@@ -356,6 +350,7 @@ pub record Called (l : ℕ) (side : Side) (c : EndCall) (told : List Record) (ha
   pub other_is : end_of (other side) m ≡ end_of (other side) k
   pub out_is : m.out ≡ k.out ++ told
   pub says : Says side told (λ s n. handed s n ++ looped_at s n told) (end_of side k) c
+  pub unhanded : set.hands ≡ false → (s : Side) (n : ℕ) → handed s n ≡ []
   pub kinds_are : m.kinds ≡ k.kinds
   pub shown : (bits : ℕ) (from : Side) (p : Cursor)
       → told_in (sent_by from) l p told ≡ call_whats side l (end_of side k) c bits from
@@ -486,7 +481,7 @@ IsStill b told = (p : Cursor) → IsAt b p → IsAt b (place_behind p told)
 
 pub called_nb_behind : (l : ℕ) (set : Marks) (b : Behind) (c : EndCall) (told : List Record) (handed : Side → ℕ
     → List (List ℕ)) (k m : Link) (n : Moment) (Q : Station → Type 0) → ended b ≡ [] → IsLeft b told → IsStill b told
-    → IsPlayed l set c → Called l Nb c told handed k m
+    → IsPlayed l set c → Called l set Nb c told handed k m
     → HandsBehind l set b b handed (Stands Nb n) Q (Stands Nb n) Q k m
 called_nb_behind l set b c told handed k m n Q open' left stands life x a h = record {
   air = record a { nb = record a.nb { end = after_call a.nb.end c } };
@@ -495,7 +490,8 @@ called_nb_behind l set b c told handed k m n Q open' left stands life x a h = re
   goes = weaken l set b told (λ s i. handed s i ++ looped_at s i told) a
       (record a { nb = record a.nb { end = after_call a.nb.end c } }) open'
       (goes_plain l set Nb told (λ s i. handed s i ++ looped_at s i told) c a x.plain x.given life
-      (says_at Nb told (λ s i. handed s i ++ looped_at s i told) c a.nb.end k.nb h.nb_is x.says));
+      (says_at Nb told (λ s i. handed s i ++ looped_at s i told) c a.nb.end k.nb h.nb_is x.says)
+      (λ off s i. ap (λ (sdus : List (List ℕ)). sdus ++ looped_at s i told) (x.unhanded off s i)));
   ws = call_whats Nb l a.nb.end c;
   left = left;
   stands = stands;
@@ -512,14 +508,14 @@ called_nb_behind l set b c told handed k m n Q open' left stands life x a h = re
 
 pub called_nb : (l : ℕ) (set : Marks) (c : EndCall) (told : List Record) (handed : Side → ℕ
     → List (List ℕ)) (k m : Link) (n : Moment) (Q : Station → Type 0) → IsPlayed l set c
-    → Called l Nb c told handed k m
+    → Called l set Nb c told handed k m
     → Hands l set handed (Stands Nb n) Q (Stands Nb n) Q k m
 called_nb l set c told handed k m n Q life x =
     called_nb_behind l set Any c told handed k m n Q refl (λ sent fits. tt) (λ p at. tt) life x
 
 pub called_ue_behind : (l : ℕ) (set : Marks) (b : Behind) (c : EndCall) (told : List Record) (handed : Side → ℕ
     → List (List ℕ)) (k m : Link) (P : Station → Type 0) (u : Moment) → ended b ≡ [] → IsLeft b told → IsStill b told
-    → IsPlayed l set c → Called l Ue c told handed k m
+    → IsPlayed l set c → Called l set Ue c told handed k m
     → HandsBehind l set b b handed P (Stands Ue u) P (Stands Ue u) k m
 called_ue_behind l set b c told handed k m P u open' left stands life x a h = record {
   air = record a { ue = record a.ue { end = after_call a.ue.end c } };
@@ -528,7 +524,8 @@ called_ue_behind l set b c told handed k m P u open' left stands life x a h = re
   goes = weaken l set b told (λ s i. handed s i ++ looped_at s i told) a
       (record a { ue = record a.ue { end = after_call a.ue.end c } }) open'
       (goes_plain l set Ue told (λ s i. handed s i ++ looped_at s i told) c a x.plain x.given life
-      (says_at Ue told (λ s i. handed s i ++ looped_at s i told) c a.ue.end k.ue h.ue_is x.says));
+      (says_at Ue told (λ s i. handed s i ++ looped_at s i told) c a.ue.end k.ue h.ue_is x.says)
+      (λ off s i. ap (λ (sdus : List (List ℕ)). sdus ++ looped_at s i told) (x.unhanded off s i)));
   ws = call_whats Ue l a.ue.end c;
   left = left;
   stands = stands;
@@ -545,43 +542,53 @@ called_ue_behind l set b c told handed k m P u open' left stands life x a h = re
 
 pub called_ue : (l : ℕ) (set : Marks) (c : EndCall) (told : List Record) (handed : Side → ℕ
     → List (List ℕ)) (k m : Link) (P : Station → Type 0) (u : Moment) → IsPlayed l set c
-    → Called l Ue c told handed k m
+    → Called l set Ue c told handed k m
     → Hands l set handed P (Stands Ue u) P (Stands Ue u) k m
 called_ue l set c told handed k m P u life x =
     called_ue_behind l set Any c told handed k m P u refl (λ sent fits. tt) (λ p at. tt) life x
 
 pub called_rests : (l : ℕ) (set : Marks) (side : Side) (c : EndCall) (told : List Record) (handed : Side → ℕ
-    → List (List ℕ)) (k m : Link) → IsPlayed l set c → Called l side c told handed k m
+    → List (List ℕ)) (k m : Link) → IsPlayed l set c → Called l set side c told handed k m
     → (n u : Moment) → Hands l set handed (Stands Nb n) (Stands Ue u) (Stands Nb n) (Stands Ue u) k m
 called_rests l set Nb c told handed k m life x n u = called_nb l set c told handed k m n (Stands Ue u) life x
 called_rests l set Ue c told handed k m life x n u = called_ue l set c told handed k m (Stands Nb n) u life x
 
--- ---- events that tell nothing of the air
+-- ---- by one step, or by none
 
--- they are of no writing
-unwritten_if : (b : Bool) (bits : ℕ) (e : Event) → flat_map (given_in bits) (e ∷ []) ≡ []
-    → entries_given bits (cond b (e ∷ []) []) ≡ []
-unwritten_if true bits e q = ap (λ (gs : List Given). entries_of gs) q
-unwritten_if false bits e q = refl
+-- of a call
+pub nb_calls : (l : ℕ) (set : Marks) (c : EndCall) (told : List Record) (handed : Side → ℕ
+    → List (List ℕ)) (k m : Link) (n : Moment) (Q : Station → Type 0) (life : IsPlayed l set c)
+    (x : Called l set Nb c told handed k m) (a : Air) (h : Both (Stands Nb n) Q k a)
+    → let r = called_nb l set c told handed k m n Q life x a h in
+    (r.goes.steps ≡ InLife (AtNb (Calls c)) ∷ []) × (r.more ≡ told)
+unfolding called_nb called_nb_behind weaken goes_plain goes_to
+nb_calls l set c told handed k m n Q life x a h =
+    let given : Side → ℕ → List (List ℕ) = λ s i. handed s i ++ looped_at s i told in (
+      call_steps l set Nb told given c a x.given life (plain_calling a.nb c x.plain)
+          (says_at Nb told given c a.nb.end k.nb h.nb_is x.says)
+          (λ off s i. ap (λ (sdus : List (List ℕ)). sdus ++ looped_at s i told) (x.unhanded off s i)),
+      refl,
+    )
 
-pub unwritten : (bits l : ℕ) (e : Event) → is_of_writing e ≡ false → entries_given bits (told_on l (e ∷ [])) ≡ []
-unwritten bits l (events.Take lcid count len) q = cc
-unwritten bits l (events.Report lcid fms bitmap) q = cc
-unwritten bits l e q = unwritten_if (is_on l e) bits e refl
+pub ue_calls : (l : ℕ) (set : Marks) (c : EndCall) (told : List Record) (handed : Side → ℕ
+    → List (List ℕ)) (k m : Link) (P : Station → Type 0) (u : Moment) (life : IsPlayed l set c)
+    (x : Called l set Ue c told handed k m) (a : Air) (h : Both P (Stands Ue u) k a)
+    → let r = called_ue l set c told handed k m P u life x a h in
+    (r.goes.steps ≡ InLife (AtUe (Calls c)) ∷ []) × (r.more ≡ told)
+unfolding called_ue called_ue_behind weaken goes_plain goes_to
+ue_calls l set c told handed k m P u life x a h =
+    let given : Side → ℕ → List (List ℕ) = λ s i. handed s i ++ looped_at s i told in (
+      call_steps l set Ue told given c a x.given life (plain_calling a.ue c x.plain)
+          (says_at Ue told given c a.ue.end k.ue h.ue_is x.says)
+          (λ off s i. ap (λ (sdus : List (List ℕ)). sdus ++ looped_at s i told) (x.unhanded off s i)),
+      refl,
+    )
 
-pub none_if : (b : Bool) (hs : List AccountEntry) → hs ≡ [] → only_if b hs ≡ []
-none_if true hs q = q
-none_if false hs q = refl
-
-pub quiet_events : (side : Side) (es : List Event) → TellNone es → TellNoAir (map (records.Of side) es)
-quiet_events side [] q bits l from sent = refl
-quiet_events side (e ∷ es) q bits l from sent =
-    by (is_of_writing e) refl q (λ r. quiet_events side es r bits l from sent)
-  where
-    by : (b : Bool) → is_of_writing e ≡ b → cond b (e ∷ filter is_of_writing es) (filter is_of_writing es) ≡ []
-        → (TellNone es → entries_in bits l from sent (map (records.Of side) es) ≡ [])
-        → entries_in bits l from sent (map (records.Of side) (e ∷ es)) ≡ []
-    by true p r rest = cc
-    by false p r rest =
-        ap (λ (hs : List AccountEntry). hs ++ entries_in bits l from sent (map (records.Of side) es))
-        (none_if (is_same side from) (entries_given bits (told_on l (e ∷ []))) (unwritten bits l e p)) ∙ rest r
+-- of a record that tells of nothing
+pub says_alone : (l : ℕ) (set : Marks) (one : Record) (k : Link) (P Q : Station → Type 0) (unflown : IsNoAir one)
+    (nb : event_of Nb one ≡ []) (ue : event_of Ue one ≡ []) (unlooped : (n : ℕ) → is_looped n one ≡ false)
+    (still : IsNoChange one) (a : Air) (h : Both P Q k a)
+    → let r = says_stage l set one k P Q unflown nb ue unlooped still a h in
+    (r.goes.steps ≡ []) × (r.more ≡ one ∷ [])
+unfolding says_stage says_behind told_stage unlooped_goes goes_as goes_none
+says_alone l set one k P Q unflown nb ue unlooped still a h = (refl, refl)

@@ -79,6 +79,7 @@ goes_in l told submitted said set whole m a x own off = record {
   stays = λ e. own;
   reads = λ bits from sent fits. absurd fits;
   logs = λ sent fits. absurd fits;
+  along = λ off sent fits. absurd fits;
   whats_are = λ bits from. refl;
   air_is = refl;
 }

@@ -23,18 +23,21 @@ use Rattle.law_deliver.specs.AmFlow.Channels.{GoesOnInLife}
 use Rattle.law_words.specs.Arrivals.{AccountEntry, Renews}
 use Rattle.law_deliver.specs.AmChannel.Arrival.{said_in, heard_in, said_over, heard_over, happened}
 use Rattle.promises.specs.Arrival.{entries_in}
+use Rattle.promises.specs.Flows.{loops_in}
 use Rattle.law_deliver.specs.AmChannel.Delivery.{submitted_in, was_submitted, sets_discard, SetNone}
 use Rattle.law_deliver.specs.AmChannel.Lives.{AirStep, InLife, Moves, brought}
 use Rattle.law_rlc.specs.AmPair.Flow.{except}
 use Rattle.um_losses.specs.declared.flow.Happening.TheVariants.{LifeRestarted}
 use Rattle.law_deliver.specs.UmGaps.Whats.{sent_in, expiries, brought as what_came, whats}
+use Rattle.law_run.specs.TwoEnds.Along.{at_side}
 use Rattle.law_run.specs.TwoEnds.Logs.{all_tell, log_in, log_come, Flight, logged}
 use Rattle.law_run.specs.TwoEnds.On.{IsHeld, IsStation}
+use Rattle.law_run.proofs.TwoEnds.Along.{nothing_looped, LoopsIn, along_one}
 use Rattle.law_run.proofs.TwoEnds.Flying.{gone, without, without_gone}
 use Rattle.law_run.proofs.TwoEnds.Stations.{Done, wait}
-use Rattle.law_run.proofs.TwoEnds.Going.{station, with_station, Tells, Submits, Unset, Marks, moving, Behind, Fits}
-use Rattle.law_run.proofs.TwoEnds.Going.{ended, Whats, no_whats, GoesBehind, Goes, goes_then, none, TellNoAir}
-use Rattle.law_run.proofs.TwoEnds.Going.{goes_none, Any, Renewed}
+use Rattle.law_run.proofs.TwoEnds.Going.{station, with_station, Tells, Submits, Unset, Marks, moving, IsLooped}
+use Rattle.law_run.proofs.TwoEnds.Going.{Behind, Fits, ended, Whats, no_whats, GoesBehind, Goes, goes_then}
+use Rattle.law_run.proofs.TwoEnds.Going.{none, TellNoAir, goes_none, Any, Renewed}
 
 -- ---- one step
 
@@ -98,10 +101,10 @@ whats_by l xs a ws nb ue bits Ue = ue bits
 
 pub goes_call : (l : ℕ) (set : Marks) (side : Side) (told : List Record) (given : Side → ℕ
     → List (List ℕ)) (c : EndCall) (a : Air) → IsGivenTo c → IsPlayed l set c → IsCalling (station side a) c
-    → Says side told given (station side a).end c
+    → Says side told given (station side a).end c → IsLooped set told given
     → Goes l set told given (call_whats side l (station side a).end c) a
     (with_station side (calls (station side a) c) a)
-goes_call l set Nb told given c a g life calling x =
+goes_call l set Nb told given c a g life calling x looped =
     let xs : List AirStep = InLife (AtNb (Calls c)) ∷ [] in
     record {
       steps = xs;
@@ -117,11 +120,16 @@ goes_call l set Nb told given c a g life calling x =
           ≡ entries_in bits l side sent.octets told) (said_one bits l a.nb.end c ∙ x.says bits l sent.octets)
           (heard_one l a.nb.end c ∙ x.hears bits l sent.octets) from;
       logs = λ sent fits. append-nil (log_in Nb 0 a.nb.end c) ∙ x.logs sent;
+      along = λ off sent fits.
+          along_one sent (InLife (AtNb (Calls c))) a told (sym (x.logs sent))
+          (by_sides (LoopsIn told (InLife (AtNb (Calls c))) a)
+          (λ n. sym (append-nil (submitted_in n a.nb.end c) ∙ (x.submitted_is n ∙ looped off Nb n)))
+          (λ n. sym (x.other_submitted n ∙ looped off Ue n)));
       whats_are = whats_by l xs a (call_whats Nb l a.nb.end c) (λ bits. append-nil (sent_in Nb l bits a.nb.end c))
           (λ bits. append-nil (expiries l (told_of a.nb.end c)));
       air_is = refl;
     }
-goes_call l set Ue told given c a g life calling x =
+goes_call l set Ue told given c a g life calling x looped =
     let xs : List AirStep = InLife (AtUe (Calls c)) ∷ [] in
     record {
       steps = xs;
@@ -137,10 +145,23 @@ goes_call l set Ue told given c a g life calling x =
           ≡ entries_in bits l side sent.octets told) (heard_one l a.ue.end c ∙ x.hears bits l sent.octets)
           (said_one bits l a.ue.end c ∙ x.says bits l sent.octets) from;
       logs = λ sent fits. append-nil (log_in Ue 0 a.ue.end c) ∙ x.logs sent;
+      along = λ off sent fits.
+          along_one sent (InLife (AtUe (Calls c))) a told (sym (x.logs sent))
+          (by_sides (LoopsIn told (InLife (AtUe (Calls c))) a) (λ n. sym (x.other_submitted n ∙ looped off Nb n))
+          (λ n. sym (append-nil (submitted_in n a.ue.end c) ∙ (x.submitted_is n ∙ looped off Ue n))));
       whats_are = whats_by l xs a (call_whats Ue l a.ue.end c) (λ bits. append-nil (expiries l (told_of a.ue.end c)))
           (λ bits. append-nil (sent_in Ue l bits a.ue.end c));
       air_is = refl;
     }
+
+pub call_steps : (l : ℕ) (set : Marks) (side : Side) (told : List Record) (given : Side → ℕ
+    → List (List ℕ)) (c : EndCall) (a : Air) (g : IsGivenTo c) (life : IsPlayed l set c)
+    (calling : IsCalling (station side a) c) (x : Says side told given (station side a).end c)
+    (looped : IsLooped set told given)
+    → (goes_call l set side told given c a g life calling x looped).steps ≡ InLife (at_side side (Calls c)) ∷ []
+unfolding goes_call
+call_steps l set Nb told given c a g life calling x looped = refl
+call_steps l set Ue told given c a g life calling x looped = refl
 
 -- a block of the other end comes
 
@@ -163,9 +184,10 @@ pub goes_come : (l : ℕ) (set : Marks) (c : Behind) (side : Side) (told : List 
     → ended c ≡ [] → Brings l c side told b (station side a).end
     → slice_get (station (other side) a).blocks k ≡ Some b
     → events_of side told ≡ told_of (station side a).end (Receive b.octets) → events_of (other side) told ≡ []
+    → ((n : ℕ) → loops_in n told ≡ [])
     → GoesBehind l set c told none (come_whats side l (station side a).end b) a
     (with_station side (record (station side a) { end = after_call (station side a).end (Receive b.octets) }) a)
-goes_come l set c Nb told k b a open' brings there is untold =
+goes_come l set c Nb told k b a open' brings there is untold unlooped =
     let xs : List AirStep = InLife (AtNb (Comes k)) ∷ [] in
     let e = a.nb.end in
     record {
@@ -191,11 +213,15 @@ goes_come l set c Nb told k b a open' brings there is untold =
           ∙ brings.far bits sent fits))) from;
       logs = λ sent fits. ap (λ (o : Option Block). log_come Nb e o ++ []) there
           ∙ (append-nil (log_come Nb e (Some b)) ∙ sym (brings.log sent fits));
+      along = λ off sent fits.
+          along_one sent (InLife (AtNb (Comes k))) a told (brings.log sent fits ∙ ap (log_come Nb e) (sym there))
+          (by_sides (LoopsIn told (InLife (AtNb (Comes k))) a)
+          (λ n. ap (λ (o : Option Block). was_submitted n (brought o) e) (sym there)) unlooped);
       whats_are = whats_by l xs a (come_whats Nb l e b) (λ bits. refl)
           (λ bits. append-nil (what_came l e (slice_get a.ue.blocks k)) ∙ ap (what_came l e) there);
       air_is = ap (λ (o : Option Block). record a { nb = comes a.nb o }) there;
     }
-goes_come l set c Ue told k b a open' brings there is untold =
+goes_come l set c Ue told k b a open' brings there is untold unlooped =
     let xs : List AirStep = InLife (AtUe (Comes k)) ∷ [] in
     let e = a.ue.end in
     record {
@@ -221,6 +247,10 @@ goes_come l set c Ue told k b a open' brings there is untold =
           ∙ brings.own bits sent fits)) from;
       logs = λ sent fits. ap (λ (o : Option Block). log_come Ue e o ++ []) there
           ∙ (append-nil (log_come Ue e (Some b)) ∙ sym (brings.log sent fits));
+      along = λ off sent fits.
+          along_one sent (InLife (AtUe (Comes k))) a told (brings.log sent fits ∙ ap (log_come Ue e) (sym there))
+          (by_sides (LoopsIn told (InLife (AtUe (Comes k))) a) (λ n. refl)
+          (λ n. unlooped n ∙ ap (λ (o : Option Block). was_submitted n (brought o) e) (sym there)));
       whats_are =
           whats_by l xs a (come_whats Ue l e b) (λ bits. append-nil (what_came l e (slice_get a.nb.blocks k))
           ∙ ap (what_came l e) there) (λ bits. refl);
@@ -232,9 +262,10 @@ goes_come l set c Ue told k b a open' brings there is untold =
 pub goes_move : (l : ℕ) (set : Bool) (told : List Record) (keys : Keys) (a : Air) → TellNoAir told
     → events_of Nb told ≡ leaving a.nb.end → events_of Ue told ≡ leaving a.ue.end
     → ((sent : Flight) → logged sent told ≡ all_tell Nb (leaving a.nb.end) ++ all_tell Ue (leaving a.ue.end))
+    → ((n : ℕ) → loops_in n told ≡ [])
     → GoesBehind l (moving set) Renewed told none (move_whats l a keys) a
     (outset (after_call a.nb.end (Move keys)) (after_call a.ue.end (Move keys)))
-goes_move l set told keys a unflown nb ue log =
+goes_move l set told keys a unflown nb ue log unlooped =
     let xs : List AirStep = Moves keys ∷ [] in
     record {
       steps = xs;
@@ -251,6 +282,8 @@ goes_move l set told keys a unflown nb ue log =
           (ap (λ (hs : List AccountEntry). Renews ∷ hs) (sym (unflown bits l Ue sent.octets))) from;
       logs = λ sent fits.
           append-nil (all_tell Nb (leaving a.nb.end) ++ all_tell Ue (leaving a.ue.end)) ∙ sym (log sent);
+      along = λ off sent fits. along_one sent (Moves keys) a told (log sent)
+          (by_sides (LoopsIn told (Moves keys) a) (λ n. refl) unlooped);
       whats_are = whats_by l xs a (move_whats l a keys) (λ bits. append-nil (move_whats l a keys bits Nb))
           (λ bits. append-nil (move_whats l a keys bits Ue));
       air_is = refl;
@@ -272,6 +305,9 @@ goes_one l set Nb k a =
       stays = λ off. tt;
       reads = λ bits from sent fits. by_sides (λ (s : Side). happened bits l s xs a ≡ []) refl refl from;
       logs = λ sent fits. refl;
+      along = λ off sent fits.
+          along_one sent (InLife (AtNb (LetsGo k))) a [] refl
+          (by_sides (LoopsIn [] (InLife (AtNb (LetsGo k))) a) (λ n. refl) (λ n. refl));
       whats_are = whats_by l xs a no_whats (λ bits. refl) (λ bits. refl);
       air_is = refl;
     }
@@ -286,6 +322,9 @@ goes_one l set Ue k a =
       stays = λ off. tt;
       reads = λ bits from sent fits. by_sides (λ (s : Side). happened bits l s xs a ≡ []) refl refl from;
       logs = λ sent fits. refl;
+      along = λ off sent fits.
+          along_one sent (InLife (AtUe (LetsGo k))) a [] refl
+          (by_sides (LoopsIn [] (InLife (AtUe (LetsGo k))) a) (λ n. refl) (λ n. refl));
       whats_are = whats_by l xs a no_whats (λ bits. refl) (λ bits. refl);
       air_is = refl;
     }
@@ -293,8 +332,10 @@ goes_one l set Ue k a =
 goes_all : (l : ℕ) (set : Marks) (side : Side) (ks : List ℕ) (a : Air)
     → Goes l set [] none no_whats a
     (with_station side (record (station side a) { blocks = without ks (station side a).blocks }) a)
-goes_all l set Nb [] a = goes_none l set Any [] a refl (λ side. refl) (λ bits l from sent. refl) (λ sent. refl)
-goes_all l set Ue [] a = goes_none l set Any [] a refl (λ side. refl) (λ bits l from sent. refl) (λ sent. refl)
+goes_all l set Nb [] a =
+    goes_none l set Any [] a refl (λ side. refl) (λ bits l from sent. refl) (λ sent. refl) nothing_looped
+goes_all l set Ue [] a =
+    goes_none l set Any [] a refl (λ side. refl) (λ bits l from sent. refl) (λ sent. refl) nothing_looped
 goes_all l set Nb (k ∷ ks) a =
     let b : Air = record a { nb = record a.nb { blocks = except k a.nb.blocks } } in
     goes_then l set [] [] none none a b (record a { nb = record a.nb { blocks = without (k ∷ ks) a.nb.blocks } })
@@ -345,6 +386,8 @@ goes_pass l set t a nb ue =
       stays = λ off. tt;
       reads = λ bits from sent fits. by_sides (λ (s : Side). happened bits l s xs a ≡ []) refl refl from;
       logs = λ sent fits. refl;
+      along = λ off sent fits.
+          along_one sent (InLife Passes) a [] refl (by_sides (LoopsIn [] (InLife Passes) a) (λ n. refl) (λ n. refl));
       whats_are = whats_by l xs a no_whats (λ bits. refl) (λ bits. refl);
       air_is = refl;
     }

@@ -64,6 +64,7 @@ module _ (l : ℕ) (set : Marks) where
         other_is = ap (λ (s : Seen). fed t good s.nb) same;
         out_is = ap (λ (s : Seen). s.out) same ∙ sym (append-nil n.out);
         says = says_nothing Ue n.ue (Assigned t ndi true) tt refl refl (λ i. refl);
+        unhanded = λ off s i. refl;
         kinds_are = ap (λ (s : Seen). s.kinds) same;
         shown = shows_nothing l Ue n.ue (Assigned t ndi true) tt refl;
       })
@@ -80,6 +81,7 @@ module _ (l : ℕ) (set : Marks) where
         other_is = ap (λ (s : Seen). fed t good s.nb) same;
         out_is = ap (λ (s : Seen). s.out) same ∙ sym (append-nil n.out);
         says = says_nothing Ue n.ue (Assigned t ndi false) tt refl refl (λ i. refl);
+        unhanded = λ off s i. refl;
         kinds_are = ap (λ (s : Seen). s.kinds) same;
         shown = shows_nothing l Ue n.ue (Assigned t ndi false) tt refl;
       })
@@ -257,6 +259,7 @@ module _ (l : ℕ) (set : Marks) where
         other_is = refl;
         out_is = sym (append-nil n.out);
         says = says_nothing Nb f.nb (Granted t (Some intact)) tt refl refl (λ i. refl);
+        unhanded = λ off s i. refl;
         kinds_are = refl;
         shown = shows_nothing l Nb f.nb (Granted t (Some intact)) tt refl;
       }) in

@@ -43,11 +43,12 @@ use Rattle.mac_pdu.specs.Reading.{reading}
 use Rattle.l2_node.specs.Writing.{new_block}
 use Rattle.promises.specs.Arrival.{only_if, entries_at, entries_in}
 use Rattle.law_run.specs.TwoEnds.Logs.{LogEntry, Builds, all_tell, log_in, Flight, flight_behind, logged_at, logged}
-use Rattle.law_run.proofs.TwoEnds.Going.{Block', Fits, last_in, flight_in, flight_more, tells_more}
-use Rattle.law_run.proofs.TwoEnds.Going.{logged_more}
+use Rattle.law_run.specs.TwoEnds.Logs.{last_in, flight_in}
+use Rattle.law_run.proofs.TwoEnds.Along.{flight_more, logged_more, looped_more}
+use Rattle.law_run.proofs.TwoEnds.Going.{Block', Fits, tells_more}
 use Rattle.law_run.proofs.TwoEnds.Showing.{IsSending}
 use Rattle.law_run.proofs.TwoEnds.Stages.{own_logged}
-use Rattle.law_run.proofs.TwoEnds.Stages.{unlooped_by, events_unlooped, looped_more}
+use Rattle.law_run.proofs.TwoEnds.Stages.{unlooped_by, events_unlooped}
 use Rattle.law_run.proofs.TwoEnds.Blocks.{Flown, Visiting}
 use Rattle.law_run.proofs.TwoEnds.Blocks.{answer_to}
 use Rattle.law_run.proofs.TwoEnds.Stations.{come_eight, left_by, Sends, sends_new, sends_again}
@@ -134,7 +135,7 @@ told_first l e es = by (is_on l e)
     by true = refl
     by false = refl
 
-own_tell : (bits l : ℕ) (side : Side) (es : List Event) (sent : List ℕ)
+pub own_tell : (bits l : ℕ) (side : Side) (es : List Event) (sent : List ℕ)
     → entries_in bits l side sent (map (records.Of side) es) ≡ entries_given bits (told_on l es)
 own_tell bits l side [] sent = refl
 own_tell bits l side (e ∷ es) sent =

@@ -40,8 +40,9 @@ use Rattle.promises.specs.Taken.{leaving_in}
 use Rattle.promises.specs.Telling.{LineTells}
 use Rattle.law_run.proofs.AnyCalls.Going.{own_told, other_told}
 use Rattle.law_run.proofs.AnyCalls.Showing.{shown_untold, block_is_silent}
+use Rattle.law_run.proofs.TwoEnds.Along.{looped_more}
 use Rattle.law_run.proofs.TwoEnds.Visits.{silent_unlooped}
-use Rattle.law_run.proofs.TwoEnds.Stages.{events_unlooped, looped_more}
+use Rattle.law_run.proofs.TwoEnds.Stages.{events_unlooped}
 use Rattle.law_run.proofs.WaitingSdus.Counting.{left_in, left_both}
 
 module _ (l : ℕ) where

@@ -13,9 +13,8 @@ use Rattle.promises.specs.Records.{event_of, events_of}
 use Rattle.promises.specs.Taken.{leaving_in, were_taken}
 use Rattle.promises.specs.WaitingSdus.{Queue, with_left, AllMayLeave, left_by, after_record}
 use Rattle.promises.specs.WaitingSdus.{after_records, EachMayLeave}
-use Rattle.law_run.proofs.Early.{none_looped}
 use Rattle.law_run.proofs.EmptyLists.{parts_empty}
-use Rattle.law_run.proofs.TwoEnds.Stages.{looped_more}
+use Rattle.law_run.proofs.TwoEnds.Along.{looped_more, nothing_looped}
 
 -- ---- the next COUNT
 
@@ -239,7 +238,7 @@ as_queue xs ys n m e f = ap (λ (zs : List (Option ℕ)). queue_of zs n) e ∙ a
 pub after_is : (from : Side) (l : ℕ) (told : List Record) (q : Queue)
     → after_records from l told q ≡ behind_records from l told q
 after_is from l [] q =
-    let none = ap (λ (xs : List (List ℕ)). length xs) (none_looped from l) in
+    let none = ap (λ (xs : List (List ℕ)). length xs) (nothing_looped from l) in
     as_queue q.leaving (q.leaving ++ []) q.submitted (q.submitted + length (looped_at from l []))
     (sym (append-nil q.leaving)) (omega (arith, none))
 after_is from l (one ∷ told) q =

@@ -14,11 +14,11 @@ use Rattle.promises.specs.Flows.{looped_at}
 use Rattle.promises.specs.Taken.{leaving_in}
 use Rattle.promises.specs.WaitingSdus.{Queue, after_record, after_records, EachMayLeave}
 use Rattle.law_run.proofs.AnyAir.{ComesBy}
-use Rattle.law_run.proofs.TwoEnds.Stages.{looped_more}
 use Rattle.law_run.proofs.WaitingSdus.Counting.{next_behind, next_both, InTurn, gone, gone_both, left_in, left_both}
 use Rattle.law_run.proofs.WaitingSdus.Counting.{Counted, counted_quiet, counted_then, counted_end, behind_records}
 use Rattle.law_run.proofs.WaitingSdus.Counting.{after_is}
 use Rattle.law_run.proofs.WaitingSdus.Ends.{QueuedAt, goes_on}
+use Rattle.law_run.proofs.TwoEnds.Along.{looped_more}
 
 -- ---- groups of records one behind the other
 

@@ -1,6 +1,6 @@
 -- What a link plays are steps of its two ends, in which only blocks come that the other end built,
 -- and both of them move in a handover (TS 36.321 5.3, 5.4, 5.9).
-use Rattle.std.specs.Prelude.{◌≡◌, ℕ, ◌≤◌, ◌==◌, Bool, false, if◌then◌else◌, List, [], ◌++◌}
+use Rattle.std.specs.Prelude.{◌≡◌, ℕ, ◌≤◌, ◌==◌, Bool, true, false, if◌then◌else◌, List, [], ◌++◌}
 use Rattle.air_link.specs.Link.{Link, end_of}
 use Rattle.air_record.specs.declared.record.Record.{Record}
 use Rattle.bearer_types.specs.Configs.{IsConfig}
@@ -16,8 +16,9 @@ use Rattle.law_words.specs.Arrivals.{AccountEntry}
 use Rattle.law_deliver.specs.AmChannel.Arrival.{happened}
 use Rattle.law_deliver.specs.AmChannel.Delivery.{accepted, was_submitted, SetNone}
 use Rattle.law_deliver.specs.AmChannel.Lives.{AirStep, AreLiving, lives, end_at, all_calls}
+use Rattle.law_run.specs.TwoEnds.Along.{AreAlong, IsHandedIn}
 use Rattle.law_run.specs.TwoEnds.Arrival.{told_by_step}
-use Rattle.law_run.specs.TwoEnds.Logs.{log_of, no_flight, logged, LogAlone}
+use Rattle.law_run.specs.TwoEnds.Logs.{log_of, Flight, no_flight, logged, LogAlone}
 use Rattle.promises.specs.Arrival.{entries_in}
 use Rattle.um_losses.specs.declared.cursor.Cursor.{Cursor}
 use Rattle.um_losses.specs.Told.{told_in}
@@ -36,6 +37,17 @@ handed_in side n (Drains grant) k = []
 handed_in side n (Submit s lcid sdu) k =
     if is_same s side then accepted (refusal lcid sdu (end_of s k)) (lcid == n) sdu else []
 handed_in side n (Calls c) k = []
+
+-- ---- a step hands one in
+
+abbrev pub is_submission : Step → Bool
+is_submission (Submit side lcid sdu) = true
+is_submission s = false
+
+-- it goes on so, by these steps, and adds these records
+abbrev pub SubmissionsGoAlone : Step → Link → List AirStep → List Record → Type 0
+SubmissionsGoAlone (Submit side lcid sdu) k steps more = IsHandedIn side lcid sdu k steps more
+SubmissionsGoAlone s k steps more = Unit {0}
 
 -- ---- a step sets a discard timer on a channel
 
@@ -69,8 +81,9 @@ pub record GoesByAir (l : ℕ) (told : List Record) (submitted : Side → ℕ �
   pub on : IsOn m (lives steps a)
 
 -- a step of a link goes on so, and adds these records, which tell of blocks that were sent before
--- it nothing; where they show the PDUs of the channel as those of unacknowledged RLC, they tell
--- what the steps are to a flow from each side
+-- it nothing; where it hands in no SDU they stand where its steps of the air are; where they show
+-- the PDUs of the channel as those of unacknowledged RLC, they tell what the steps are to a flow
+-- from each side
 pub record GoesOn (l : ℕ) (s : Step) (k : Link) (a : Air) : Type 0 where
   pub more : List Record
   pub out_is : (step s k).out ≡ k.out ++ more
@@ -78,6 +91,8 @@ pub record GoesOn (l : ℕ) (s : Step) (k : Link) (a : Air) : Type 0 where
   pub log_alone : LogAlone more
   pub by : GoesByAir l more (λ side n. handed_in side n s k ++ looped_at side n more)
       (λ bits from. told_by_step bits l from s more) (sets l s) (step s k) a
+  pub along : is_submission s ≡ false → (sent : Flight) → AreAlong sent by.steps a more
+  pub submits : SubmissionsGoAlone s k by.steps more
   pub stays : (bits : ℕ) → IsShown l bits k.kinds → IsShown l bits (step s k).kinds
   pub shown : (bits : ℕ) → IsShown l bits k.kinds → (from : Side) (c : Cursor)
       → whats from l bits by.steps a ≡ anew s ++ told_in (sent_by from) l c more

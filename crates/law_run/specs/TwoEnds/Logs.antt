@@ -94,6 +94,23 @@ flight_behind one sent = record {
 abbrev pub no_flight : Flight
 no_flight = record { nb = 0; ue = 0; octets = [] }
 
+-- the block that was sent last behind records
+abbrev pub last_in : List Record → List ℕ → List ℕ
+last_in [] sent = sent
+last_in (one ∷ told) sent = last_in told (sent_last one sent)
+
+-- with the process of each side
+abbrev pub process_in : Side → List Record → ℕ → ℕ
+process_in side [] before = before
+process_in side (one ∷ told) before = process_in side told (process_last side one before)
+
+abbrev pub flight_in : List Record → Flight → Flight
+flight_in told sent = record {
+  nb = process_in Nb told sent.nb;
+  ue = process_in Ue told sent.ue;
+  octets = last_in told sent.octets;
+}
+
 abbrev pub logged_at : Flight → Record → List LogEntry
 logged_at sent (records.Of side event) = if is_of_loop event then [] else Tells side event ∷ []
 logged_at sent (records.Block direction process true version octets) =

@@ -13,7 +13,9 @@ use Rattle.law_run.specs.AnyCalls.Runs.{Step, Calls, step}
 use Rattle.law_deliver.specs.AmFlow.Air.{Air, outset}
 use Rattle.law_deliver.specs.AmChannel.Lives.{AirStep, InLife, Moves, end_at}
 use Rattle.promises.specs.Arrival.{entries_in}
+use Rattle.law_run.specs.TwoEnds.Along.{AreAlong}
 use Rattle.law_run.specs.TwoEnds.Going.{GoesByAir, GoesOn, IsStepSince}
+use Rattle.law_run.specs.TwoEnds.Logs.{Flight}
 use Rattle.promises.specs.Flows.{looped_at}
 use Rattle.law_run.specs.TwoEnds.On.{IsOn}
 
@@ -35,7 +37,8 @@ pub record Stays (l : ℕ) (s : Step) (k : Link) (a : Air) : Type 0 where
 abbrev pub StepsStay : Type 0
 StepsStay = (l : ℕ) (s : Step) (k : Link) (a : Air) → IsStepSince l s → IsOn k a → Stays l s k a
 
--- a handover: what both ends tell as they move, and what they tell behind it in the next life
+-- a handover: what both ends tell as they move, and what they tell behind it in the next life, as
+-- its steps are
 pub record MovesOn (l : ℕ) (keys : Keys) (k : Link) (a : Air) : Type 0 where
   pub leaving : List Record
   pub behind : List Record
@@ -46,6 +49,8 @@ pub record MovesOn (l : ℕ) (keys : Keys) (k : Link) (a : Air) : Type 0 where
       (λ bits from. entries_in bits l from [] behind) false (step (Calls (HandsOver keys)) k)
       (outset (after a.nb.end (Move keys)) (after a.ue.end (Move keys)))
   pub in_life : AreInLife by.steps
+  pub along : (sent : Flight) → AreAlong sent by.steps
+      (outset (after a.nb.end (Move keys)) (after a.ue.end (Move keys))) behind
 
 abbrev pub HandoversMove : Type 0
 HandoversMove = (l : ℕ) (keys : Keys) (k : Link) (a : Air) → IsOn k a → MovesOn l keys k a
