@@ -253,7 +253,7 @@ landed_same k Ue status own back sequenced confirmed come same b =
     ∙ ap (λ (s : Supply _). both s (gone_by sequenced b.ue))
     (hear_same k status own back sequenced confirmed come same b.ue b.nb)
 
-says_there : (bearer : Option BearerConfig) (config : BearerConfig) (es : List LifeEvent) (flow : Option FlowLives)
+pub says_there : (bearer : Option BearerConfig) (config : BearerConfig) (es : List LifeEvent) (flow : Option FlowLives)
     → bearer ≡ Some config → is_acked_kind config.kind ≡ true → SaysBy bearer es flow → SaysSo config.first es flow
 says_there bearer config es flow is acked says =
     subst (λ (o : Option BearerConfig). SaysBy o es flow) is says acked

@@ -99,7 +99,7 @@ heard_so l low newer now past told one b is = refl
 
 -- ---- a record
 
-first_stands : (l : ℕ) → l ≤ 10 → (now : Group) (past : List Group) (told : List Record)
+pub first_stands : (l : ℕ) → l ≤ 10 → (now : Group) (past : List Group) (told : List Record)
     → is_some (bearer_first l now past told) ≡ has_data (bearer_on l (now ∷ past))
 first_stands l low now past told = (bearers_stand History histories l past low).within (first_of now told)
 

@@ -15,10 +15,11 @@ use Rattle.journal_account.specs.FlowEvents.{FlowEvent}
 use Rattle.journal_account.specs.Stream.{place_of, came_along, sdu_sizes, sdu_end}
 use Rattle.journal_account.proofs.Complete.{between_all, between_each}
 use Rattle.journal_account.proofs.Wholes.{iff}
-use Rattle.law_rlc.specs.AmSender.Run.{Call, Status, World, after, run_am_sender, begun}
+use Rattle.law_rlc.specs.AmSender.Run.{Call, Status, World, after, begun}
 use Rattle.law_rlc.specs.AmSender.Confirmed.{Confirmations, unconfirmed, confirmations_after, times, octets_in, is_done}
 use Rattle.law_rlc.specs.AmSender.Confirmed.{places}
-use Rattle.law_rlc.proofs.AmPair.Runs.{called}
+use Rattle.law_rlc.proofs.AmPair.Confirming.{same-sender}
+use Rattle.law_rlc.proofs.AmPair.Runs.{run-more, sender-more}
 use Rattle.law_rlc.proofs.AmSender.Books.{marks}
 use Rattle.law_rlc.proofs.AmSender.Confirms.{confirms}
 use Rattle.law_rlc.proofs.AmSender.Credits.{times-append}
@@ -26,10 +27,10 @@ use Rattle.law_account.specs.History.{IsTold, with_told}
 use Rattle.law_account.specs.HistoryRuns.{Calls}
 use Rattle.law_given.specs.Confirming.{AreSizesTold, calls_more, ConfirmsAsTold, StatusesConfirmAsTold, those_from}
 use Rattle.law_given.specs.Confirming.{newly_confirmed}
-use Rattle.law_given.proofs.ConfirmingRuns.{Beside, flow_beside, same_sender, acked_same, sizes_go_on}
+use Rattle.law_given.proofs.ConfirmingRuns.{Beside, flow_beside, acked_same, sizes_go_on}
 use Rattle.law_rlc.specs.AmPair.Confirmed.{confirmations}
 use Rattle.law_rlc.specs.AmPair.Flow.{Flow, sender}
-use Rattle.law_rlc.specs.AmSender.Octets.{Octets, nothing_sent, octets_after}
+use Rattle.law_rlc.specs.AmSender.Octets.{Octets}
 use Rattle.law_account.specs.History.{Follows}
 use Rattle.law_account.proofs.History.{calls_follow}
 use Rattle.law_given.proofs.ConfirmingSizes.{size_at, place_next, shut, shut_in, shut_along, shut_marks, all_octets}
@@ -196,33 +197,22 @@ those_are p low (suc many) xs a t within =
 
 -- ---- a call more
 
-pub run_then : (calls : List Call) (c : Call) (w : World Confirmations)
-    → run_am_sender confirmations_after (calls ++ c ∷ []) w
-    ≡ called confirmations_after (run_am_sender confirmations_after calls w) c
-run_then [] c w = refl
-run_then (d ∷ ds) c w = run_then ds c (called confirmations_after w d)
-
-octets_then : (calls : List Call) (c : Call) (w : World Octets)
-    → run_am_sender octets_after (calls ++ c ∷ []) w ≡ called octets_after (run_am_sender octets_after calls w) c
-octets_then [] c w = refl
-octets_then (d ∷ ds) c w = octets_then ds c (called octets_after w d)
-
 pub call_confirmed : (most : ℕ) (f : Flow) (es : List FlowEvent) (c : Call) (o : Option FlowEvent)
     → AreSizesTold f es → Follows most es (sender f).state → IsTold (sender f).state c o → (k : ℕ)
     → times k (places (after (confirmations f).state c) (confirmations_after (confirmations f).state c
     (confirmations f).past)) ≡ (if is_confirmed_sdu (with_told o es) k then 1 else 0)
 call_confirmed most f es c o h follows told k =
     ap (λ (v : World Confirmations). times k (places v.state v.past))
-    (sym (run_then f.sent c (begun f.sending unconfirmed)))
+    (sym (run-more confirmations_after f.sent c (begun f.sending unconfirmed)))
     ∙ all_confirmed most (calls_more (Calls c o ∷ []) f) (with_told o es)
     (sizes_go_on f es (Calls c o ∷ []) (told, tt) h)
     (subst (λ (w : World Octets). Follows most (with_told o es) w.state)
-    (sym (octets_then f.sent c (begun f.sending nothing_sent)))
+    (sym (sender-more f c))
     (calls_follow most es (sender f).state c o told follows)) k
 
 -- ---- a STATUS comes
 
-more_are : (was now : Bool) (t a : ℕ) → a ≡ (if was then 1 else 0) → a + t ≡ (if now then 1 else 0)
+pub more_are : (was now : Bool) (t a : ℕ) → a ≡ (if was then 1 else 0) → a + t ≡ (if now then 1 else 0)
     → t ≡ (if now && not was then 1 else 0)
 more_are true true t a e f = omega (arith, e, f)
 more_are true false t a e f = absurd (omega (arith, e, f))
@@ -273,5 +263,5 @@ status_adds most f es status o h follows told =
 pub statuses_confirm : StatusesConfirmAsTold
 statuses_confirm most f es status o h follows told =
     subst (λ (s : State). (after s (Status status)).accounts.news
-    ≡ s.accounts.news ++ newly_confirmed es (with_told o es)) (same_sender f)
+    ≡ s.accounts.news ++ newly_confirmed es (with_told o es)) (same-sender f)
     (status_adds most f es status o h follows told)

@@ -27,7 +27,8 @@ use Rattle.law_rlc.specs.AmPair.Confirmed.{confirmations}
 use Rattle.law_rlc.specs.AmPair.Flow.{Flow, sender}
 use Rattle.law_rlc.specs.AmPair.Sdus.{offers_with, offered_in, offered}
 use Rattle.law_rlc.proofs.AmPair.Owners.{SameLens, joined_marks, alike, flow-marks}
-use Rattle.law_rlc.proofs.AmPair.Runs.{called, same-state}
+use Rattle.law_rlc.proofs.AmPair.Confirming.{same-sender}
+use Rattle.law_rlc.proofs.AmPair.Runs.{called}
 use Rattle.law_rlc.proofs.AmPair.Whole.{have-octets}
 use Rattle.law_rlc.proofs.AmSender.Books.{marks}
 use Rattle.law_rlc.proofs.AmSender.Confirms.{after-acked}
@@ -273,14 +274,10 @@ run_fits (c ∷ cs) w h =
     (subst (λ (acked : ℕ → Bool). Fits (after w.state c).window acked) (sym (after-acked w.state c w.past))
     (after-fits w.state c w.past.acked h))
 
-pub same_sender : (f : Flow) → (confirmations f).state ≡ (sender f).state
-same_sender f =
-    same-state confirmations_after octets_after f.sent (begun f.sending unconfirmed) (begun f.sending nothing_sent) refl
-
 pub flow_beside : (most : ℕ) (f : Flow) (es : List FlowEvent) → AreSizesTold f es → Follows most es (sender f).state
     → Beside most es (confirmations f)
 flow_beside most f es h follows = record {
-  follows = subst (λ (s : State). Follows most es s) (sym (same_sender f)) follows;
+  follows = subst (λ (s : State). Follows most es s) (sym (same-sender f)) follows;
   fits = run_fits f.sent (begun f.sending unconfirmed) (fresh-fits f.sending);
   some = subst (λ (l : List ℕ). (k : ℕ) → k < length l → 0 < size_at l k) (sym h.sdus)
       (λ k lt. some_octet (offered f) k (have-octets f.sent h.octets) lt);

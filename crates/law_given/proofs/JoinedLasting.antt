@@ -326,7 +326,7 @@ happens_in_life bits l from a s g =
     (all_said bits l cs (end_at from a) (calls_move l from a s g))
     (all_heard l ds (end_at (other from) a))
 
-living_last : (l : ℕ) (xs : List AirStep) (x : AirStep) (a : Air) → AreLiving l a (xs ++ x ∷ [])
+pub living_last : (l : ℕ) (xs : List AirStep) (x : AirStep) (a : Air) → AreLiving l a (xs ++ x ∷ [])
     → IsLiving l (lives xs a) x
 living_last l [] x a g = g.0
 living_last l (y ∷ xs) x a g = living_last l xs x (lives_on a y) g.1

@@ -36,15 +36,15 @@ use Rattle.law_given.proofs.JoinedReports.{read_in}
 
 -- ---- steps behind steps
 
-lives_more : (xs ys : List AirStep) (a : Air) → lives (xs ++ ys) a ≡ lives ys (lives xs a)
+pub lives_more : (xs ys : List AirStep) (a : Air) → lives (xs ++ ys) a ≡ lives ys (lives xs a)
 lives_more [] ys a = refl
 lives_more (x ∷ xs) ys a = lives_more xs ys (lives_on a x)
 
-living_front : (l : ℕ) (xs ys : List AirStep) (a : Air) → AreLiving l a (xs ++ ys) → AreLiving l a xs
+pub living_front : (l : ℕ) (xs ys : List AirStep) (a : Air) → AreLiving l a (xs ++ ys) → AreLiving l a xs
 living_front l [] ys a g = tt
 living_front l (x ∷ xs) ys a g = (g.0, living_front l xs ys (lives_on a x) g.1)
 
-happened_more : (bits l : ℕ) (from : Side) (xs ys : List AirStep) (a : Air)
+pub happened_more : (bits l : ℕ) (from : Side) (xs ys : List AirStep) (a : Air)
     → happened bits l from (xs ++ ys) a ≡ happened bits l from xs a ++ happened bits l from ys (lives xs a)
 happened_more bits l from [] ys a = refl
 happened_more bits l from (x ∷ xs) ys a =
@@ -52,7 +52,7 @@ happened_more bits l from (x ∷ xs) ys a =
     ∙ sym (append_assoc (happens_in bits l from a x) (happened bits l from xs (lives_on a x))
     (happened bits l from ys (lives xs (lives_on a x))))
 
-calls_more : (side : Side) (xs ys : List AirStep) (a : Air)
+pub calls_more : (side : Side) (xs ys : List AirStep) (a : Air)
     → all_calls side (xs ++ ys) a ≡ all_calls side xs a ++ all_calls side ys (lives xs a)
 calls_more side [] ys a = refl
 calls_more side (x ∷ xs) ys a =
@@ -105,7 +105,7 @@ joined_go_on l c keys nb ue from steps x h g = record {
 
 -- ---- both ends move
 
-moved_told : (c : BearerConfig) (l : ℕ) (from : Side) (xs : List AirStep) (keys : Keys) (a : Air)
+pub moved_told : (c : BearerConfig) (l : ℕ) (from : Side) (xs : List AirStep) (keys : Keys) (a : Air)
     → told_from c l from (xs ++ Moves keys ∷ []) a ≡ renewed (told_from c l from xs a)
 moved_told c l Nb xs keys a = told_on c l Nb xs (Moves keys) a
 moved_told c l Ue xs keys a = told_on c l Ue xs (Moves keys) a
@@ -121,7 +121,7 @@ moved_bearer bits f b d keys is now data' idle =
     let r = (restarts_are_deeds bits b keys data' idle).left in
     let same : Am d ≡ Am (restarts b keys) = sym now ∙ is ∙ r in cc
 
-no_pdus : (ns : List Next) → map given_of ns ≡ [] → ns ≡ []
+pub no_pdus : (ns : List Next) → map given_of ns ≡ [] → ns ≡ []
 no_pdus [] q = refl
 no_pdus (n ∷ ns) q = cc
 
@@ -135,7 +135,7 @@ none_at ns n b count none z =
     ∙ ap (λ (m : ℕ). b || is_among (take m []) count) z
     ∙ no_more b
 
-least_as : (p q : ℕ → Bool) (from to : ℕ) → ((n : ℕ) → q n ≡ p n) → IsLeast p from to → IsLeast q from to
+pub least_as : (p q : ℕ → Bool) (from to : ℕ) → ((n : ℕ) → q n ≡ p n) → IsLeast p from to → IsLeast q from to
 least_as p q from to same h = record {
   from = h.from;
   refused = same to ∙ h.refused;

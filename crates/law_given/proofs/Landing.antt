@@ -43,15 +43,15 @@ use Rattle.law_given.proofs.SupplyLives.{data_is_gathered, refused_stay}
 
 -- ---- a PDU arrives
 
-arrives-so : (b : State) (pdu : List ℕ) → after (Am b) (Arrive pdu) ≡ Am (after_arrival b pdu)
+pub arrives-so : (b : State) (pdu : List ℕ) → after (Am b) (Arrive pdu) ≡ Am (after_arrival b pdu)
 unfolding arrived
 arrives-so b pdu = refl
 
-record Stands (bits : ℕ) (b : State) : Type 0 where
-  of_data : IsOfData bits b
-  idle : IsIdle b
+pub record Stands (bits : ℕ) (b : State) : Type 0 where
+  pub of_data : IsOfData bits b
+  pub idle : IsIdle b
 
-stands-on : (bits : ℕ) (b : State) (pdu : List ℕ) → Stands bits b → Stands bits (after_arrival b pdu)
+pub stands-on : (bits : ℕ) (b : State) (pdu : List ℕ) → Stands bits b → Stands bits (after_arrival b pdu)
 stands-on bits b pdu h =
     let x = calls_are_deeds bits b (Arrive pdu) h.of_data h.idle in
     let both : Am (does_all (deeds_of b (Arrive pdu)) b) ≡ Am (after_arrival b pdu) = sym x.left ∙ arrives-so b pdu in
@@ -60,11 +60,11 @@ stands-on bits b pdu h =
 
 -- ---- all of a block
 
-abbrev behind : List (List ℕ) → State → State
+abbrev pub behind : List (List ℕ) → State → State
 behind [] b = b
 behind (pdu ∷ pdus) b = behind pdus (after_arrival b pdu)
 
-all-arrive : (pdus : List (List ℕ)) (b : State) → after_all (Am b) (arrivals pdus) ≡ Am (behind pdus b)
+pub all-arrive : (pdus : List (List ℕ)) (b : State) → after_all (Am b) (arrivals pdus) ≡ Am (behind pdus b)
 all-arrive [] b = refl
 all-arrive (pdu ∷ pdus) b =
     ap (λ (f : Flow). after_all f (arrivals pdus)) (arrives-so b pdu) ∙ all-arrive pdus (after_arrival b pdu)
@@ -79,9 +79,9 @@ all-stand bits (pdu ∷ pdus) b h = all-stand bits pdus (after_arrival b pdu) (s
 
 -- ---- STATUS PDUs
 
-record Confirms (b d : State) (news : List ℕ) : Type 0 where
-  sender : d.pdcp.tx ≡ all_confirmed news b.pdcp.tx
-  receiver : d.rx ≡ b.rx
+pub record Confirms (b d : State) (news : List ℕ) : Type 0 where
+  pub sender : d.pdcp.tx ≡ all_confirmed news b.pdcp.tx
+  pub receiver : d.rx ≡ b.rx
 
 one-left : (r : Result AcknowledgedPdu RlcRefusal) (b : State) → BringsNoData r
     → Confirms b (arrived_left r b) (news_in r b)
@@ -93,7 +93,7 @@ one-left (Ok (Status status)) b h = record {
   receiver = refl;
 }
 
-one-confirms : (b : State) (pdu : List ℕ) → BringsNoData (am_at pdu)
+pub one-confirms : (b : State) (pdu : List ℕ) → BringsNoData (am_at pdu)
     → Confirms b (after_arrival b pdu) (news_in (am_at pdu) b)
 unfolding after_arrival
 one-confirms b pdu h = one-left (am_at pdu) b h
@@ -194,21 +194,33 @@ confirmed-by false rlc after' x s news none a h =
     (none-beside rlc after' x s
     (subst (λ (l : List ℕ). ConfirmsAnew rlc.is_confirmed after' s.given l) (none refl) a) h)
 
-one-bits : (b : Bool) (e : TakeEvent) (pdu : GivenPdu) (s : Supply History)
-    → (if b then told histories e s else record s { unconfirmed = s.unconfirmed ++ pdu ∷ [] }).bits ≡ s.bits
-one-bits true e pdu s = refl
-one-bits false e pdu s = refl
+-- what its status report says, and the bits of sequence numbers, stay
+pub record SaysAlike (s u : Supply History) : Type 0 where
+  pub bits : u.bits ≡ s.bits
+  pub said : u.said ≡ s.said
 
-all-bits : (p : ℕ → Bool) (pdus : List GivenPdu) (s : Supply History)
-    → (confirms_all histories p pdus s).bits ≡ s.bits
-all-bits p [] s = refl
-all-bits p (pdu ∷ pdus) s =
-    all-bits p pdus (confirms_one histories p pdu s) ∙ one-bits (p pdu.number) (confirmation pdu.count) pdu s
+pub says-on : (s u v : Supply History) → SaysAlike s u → SaysAlike u v → SaysAlike s v
+says-on s u v h k = record { bits = k.bits ∙ h.bits; said = k.said ∙ h.said }
 
-confirmed-bits : (status : Bool) (p : ℕ → Bool) (s : Supply History)
-    → (confirms_by histories status p s).bits ≡ s.bits
-confirmed-bits true p s = all-bits p s.unconfirmed (record s { unconfirmed = [] })
-confirmed-bits false p s = refl
+one-says : (b : Bool) (e : TakeEvent) (pdu : GivenPdu) (s : Supply History)
+    → SaysAlike s (if b then told histories e s else record s { unconfirmed = s.unconfirmed ++ pdu ∷ [] })
+one-says true e pdu s = record { bits = refl; said = refl }
+one-says false e pdu s = record { bits = refl; said = refl }
+
+all-say : (p : ℕ → Bool) (pdus : List GivenPdu) (s : Supply History) → SaysAlike s (confirms_all histories p pdus s)
+all-say p [] s = record { bits = refl; said = refl }
+all-say p (pdu ∷ pdus) s =
+    let u = confirms_one histories p pdu s in
+    says-on s u (confirms_all histories p pdus u) (one-says (p pdu.number) (confirmation pdu.count) pdu s)
+    (all-say p pdus u)
+
+pub confirmed-says : (status : Bool) (p : ℕ → Bool) (s : Supply History)
+    → SaysAlike s (confirms_by histories status p s)
+confirmed-says true p s =
+    let u : Supply History = record s { unconfirmed = [] } in
+    says-on s u (confirms_all histories p s.unconfirmed u) (record { bits = refl; said = refl })
+    (all-say p s.unconfirmed u)
+confirmed-says false p s = record { bits = refl; said = refl }
 
 -- ---- data
 
@@ -417,20 +429,21 @@ gone-beside p x sequenced ready s k h =
     by true e = waits-for p x s (sequenced 0) None h e some
     by false e = waits-for p x s (sequenced 0) s.report h e some
 
-gone-bits : (sequenced : ℕ → Bool) (s : Supply History) → (gone_by sequenced s).bits ≡ s.bits
-gone-bits sequenced s = by (comes_by sequenced s.report)
+pub gone-says : (sequenced : ℕ → Bool) (s : Supply History) → SaysAlike s (gone_by sequenced s)
+gone-says sequenced s = by (comes_by sequenced s.report)
   where
-    by : (b : Bool) → (if b then record s { report = None } else s).bits ≡ s.bits
-    by true = refl
-    by false = refl
+    by : (b : Bool) → SaysAlike s (if b then record s { report = None } else s)
+    by true = record { bits = refl; said = refl }
+    by false = record { bits = refl; said = refl }
 
-heard-bits : (sequenced : ℕ → Bool) (sent s : Supply History) → (heard_by histories sequenced sent s).bits ≡ s.bits
-heard-bits sequenced sent s = by (comes_by sequenced sent.report)
+pub heard-says : (sequenced : ℕ → Bool) (sent s : Supply History)
+    → SaysAlike s (heard_by histories sequenced sent s)
+heard-says sequenced sent s = by (comes_by sequenced sent.report)
   where
     by : (b : Bool)
-        → (if b then told histories (ReportHeard sent.said.next sent.said.beyond) s else s).bits ≡ s.bits
-    by true = refl
-    by false = refl
+        → SaysAlike s (if b then told histories (ReportHeard sent.said.next sent.said.beyond) s else s)
+    by true = record { bits = refl; said = refl }
+    by false = record { bits = refl; said = refl }
 
 -- ---- the whole
 
@@ -475,7 +488,7 @@ landed-beside k status sequenced confirmed' there back one two d sent own h g l 
     (said_if comes sent.said)) (sym kind)
     (subst (λ (pdus : List (List ℕ)). AreReports between.pdcp.tx (map (heard (AmKind sent.bits)) pdus)
     (said_if comes sent.said)) (sym ready) among') in
-    let bits : u.bits ≡ own.bits = confirmed-bits status confirmed' own in
+    let bits : u.bits ≡ own.bits = (confirmed-says status confirmed' own).bits in
     let last' = last-beside now k.last between (said_if comes sent.said) u l.last
     (subst (λ (n : ℕ). Stands n between) (sym bits) stands) reports beside in
     let ends = all-stand own.bits (option_to_list k.last) between stands in
@@ -487,8 +500,8 @@ landed-beside k status sequenced confirmed' there back one two d sent own h g l 
           (heard-if comes sent.said u) last');
       of_data = subst (λ (n : ℕ). IsOfData n d) (sym l.bits) (subst (IsOfData own.bits) same ends.of_data);
       idle = subst IsIdle same ends.idle;
-      sender_bits = gone-bits sequenced sent;
-      receiver_bits = heard-bits sequenced sent u ∙ bits ∙ sym l.bits;
+      sender_bits = (gone-says sequenced sent).bits;
+      receiver_bits = (heard-says sequenced sent u).bits ∙ bits ∙ sym l.bits;
     }
 
 pub blocks_are_landed : BlocksAreLanded

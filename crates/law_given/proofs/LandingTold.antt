@@ -14,7 +14,7 @@ use Rattle.law_given.proofs.SupplyConfirming.{numbers-ascend, numbers-are}
 
 -- ---- what is newly confirmed
 
-none-past : (es : List FlowEvent) (k : ℕ) → length (sdu_sizes es) ≤ k → is_confirmed_sdu es k ≡ false
+pub none-past : (es : List FlowEvent) (k : ℕ) → length (sdu_sizes es) ≤ k → is_confirmed_sdu es k ≡ false
 none-past es k le =
     ap (λ (b : Bool). b && all_between (place_acked es) (place_of (sdu_sizes es) k) (sdu_end es k))
     (le-ltb k (length (sdu_sizes es)) le)
@@ -37,7 +37,7 @@ front-taken : (xs ys : List (List ℕ)) → take (length xs) (xs ++ ys) ≡ xs
 front-taken [] ys = refl
 front-taken (x ∷ xs) ys = ap (λ (l : List (List ℕ)). x ∷ l) (front-taken xs ys)
 
-middle-is : (xs ys zs : List (List ℕ)) → drop (length xs) (take (length xs + length ys) ((xs ++ ys) ++ zs)) ≡ ys
+pub middle-is : (xs ys zs : List (List ℕ)) → drop (length xs) (take (length xs + length ys) ((xs ++ ys) ++ zs)) ≡ ys
 middle-is [] ys zs =
     let on : 0 + length ys ≡ length ys = omega arith in
     ap (λ (n : ℕ). take n (ys ++ zs)) on ∙ front-taken ys zs

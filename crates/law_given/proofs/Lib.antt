@@ -20,6 +20,7 @@ pub mod Supplying
 pub mod SupplyConfirming
 pub mod SupplyLives
 pub mod SupplyQuiet
+pub mod Submissions
 pub mod Joined
 pub mod JoinedReports
 pub mod SayingReports
@@ -30,3 +31,14 @@ pub mod Landing
 pub mod LandingReports
 pub mod LandingTold
 pub mod LandingWindow
+pub mod GivenRecords
+pub mod PollFirst
+pub mod WaitingRecords
+pub mod WaitingBearers
+pub mod Tied
+pub mod TiedEnds
+pub mod BesideProgress
+pub mod Beside
+pub mod BesideBlocks
+pub mod BesideLives
+pub mod BesideConfirming

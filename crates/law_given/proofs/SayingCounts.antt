@@ -59,7 +59,7 @@ or_swap true true c = refl
 or_swap true false c = refl
 or_swap false b c = refl
 
-passes_alike : (p q : ℕ → Bool) (k : ℕ) (xs : List (Option ℕ)) (count : ℕ)
+pub passes_alike : (p q : ℕ → Bool) (k : ℕ) (xs : List (Option ℕ)) (count : ℕ)
     → ((j : ℕ) → k ≤ j → p j ≡ q j) → passes_with p k xs count ≡ passes_with q k xs count
 passes_alike p q k [] count same = refl
 passes_alike p q k (x ∷ xs) count same =

@@ -53,12 +53,12 @@ pub record Went (p : Progress) (x : Sending) (told : List Event) (s : Supply His
   pub right : AreRight told s
   pub bits : (supplied_all told s).bits ≡ s.bits
 
-all-then : (xs ys : List Event) (s : Supply History)
+pub all-then : (xs ys : List Event) (s : Supply History)
     → supplied_all (xs ++ ys) s ≡ supplied_all ys (supplied_all xs s)
 all-then [] ys s = refl
 all-then (x ∷ xs) ys s = all-then xs ys (supplied_by x s)
 
-right-then : (xs ys : List Event) (s : Supply History) → AreRight xs s → AreRight ys (supplied_all xs s)
+pub right-then : (xs ys : List Event) (s : Supply History) → AreRight xs s → AreRight ys (supplied_all xs s)
     → AreRight (xs ++ ys) s
 right-then [] ys s h k = k
 right-then (x ∷ xs) ys s h k = (h.0, right-then xs ys (supplied_by x s) h.1 k)

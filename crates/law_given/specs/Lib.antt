@@ -7,3 +7,4 @@ pub mod SupplyLaws
 pub mod Joined
 pub mod Saying
 pub mod Landing
+pub mod Beside

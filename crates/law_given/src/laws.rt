@@ -30,6 +30,10 @@ ghost use Rattle.law_given.specs.Joined.{JoinedGoOn, JoinedGoOnInLife, LivesBegi
 ghost use Rattle.law_given.specs.Landing.{BlocksAreLanded, NewsAreAsTold, BringsAsTold};
 ghost use Rattle.law_given.specs.Landing.{ReportsAreHeardSo, ReportsBeginInWindow, WindowsStay};
 ghost use Rattle.law_given.specs.Landing.{WindowsAreRead};
+ghost use Rattle.law_given.specs.Beside.{OwnCallsStayBeside, OtherStepsStayBeside};
+ghost use Rattle.law_given.specs.Beside.{BlocksStayBeside, FirstLivesBeginBeside};
+ghost use Rattle.law_given.specs.Beside.{NextLivesBeginBeside, NoneConfirmedAnew};
+ghost use Rattle.law_given.specs.Beside.{ThoseConfirmedAnew, NewsAscend};
 
 /// What a record leaves of the bearer of a channel follows from the record, that bearer, and the
 /// accounts of its flows behind the record.
@@ -266,4 +270,24 @@ pub fn reports_are_heard_so()
     ensures begins { ReportsBeginInWindow }
     ensures stays { WindowsStay }
     ensures reads { WindowsAreRead }
+{}
+
+/// What a checker gathers of both sides of a bearer of acknowledged data stands beside both ends,
+/// the directions between them and the histories of RLC's flows as the first life begins and as
+/// each next one does. It stays so in a call of an end, whose events are right; where no bearer of
+/// the channel is called; and as a block of one end comes to the other.
+pub fn supplies_stay_beside()
+    ensures calls { OwnCallsStayBeside }
+    ensures others { OtherStepsStayBeside }
+    ensures blocks { BlocksStayBeside }
+    ensures begins { FirstLivesBeginBeside }
+    ensures lives { NextLivesBeginBeside }
+{}
+
+/// As a direction goes on, those are newly confirmed by the history of its flow that its sender
+/// confirms, and none where it confirms nothing. What one STATUS newly confirms ascends.
+pub fn confirmed_anew()
+    ensures none { NoneConfirmedAnew }
+    ensures those { ThoseConfirmedAnew }
+    ensures ascend { NewsAscend }
 {}
