@@ -4,13 +4,14 @@ ghost use Rattle.l2_top.specs.Main.{Does};
 ghost use Rattle.line_player.specs.Streams.{streams};
 ghost use Rattle.law_run.specs.Journals.{EveryJournal};
 ghost use Rattle.law_sound.specs.RunLaws.{RunsDeliver, RunsReportTruly};
+ghost use Rattle.law_sound.specs.RunLaws.{RunsFailRightly, RunsTakeRightly};
 
 use crate::{Command, Status, Words};
 use check_command::check_journal;
 use l2_commands::{decode, generate, run};
 use l2_io::{Sink, Source};
 use law_run::every_journal;
-use law_sound::{runs_deliver, runs_report_truly};
+use law_sound::{runs_deliver, runs_fail_rightly, runs_report_truly, runs_take_rightly};
 use line_player::{refuse_words, tell_no_memory};
 use std::alloc::Global;
 
@@ -40,9 +41,11 @@ fn obey<S: Source, K: Sink, E: Sink>(
 ///
 /// The clause `commands` says, by the command, what is written, and what each answer means;
 /// `promises` says what holds of every journal of a script, and is the law `every_journal`. Where
-/// no line forged a block, `delivered` and `statuses` say that what goes up of acknowledged data,
-/// and the STATUS PDUs, are right in it as `l2 check` asks it of any journal (TS 36.323 5.1.2.1.2,
-/// 5.4, TS 36.322 5.2.3): the laws `runs_deliver` and `runs_report_truly`.
+/// no line forged a block, it is right as `l2 check` asks it of any journal: `delivered` says it of
+/// what goes up of acknowledged data, `statuses` of the STATUS PDUs, `takes` of what RLC takes, of
+/// status reports and of discards, `fails` of the `fail` records (TS 36.323 5.1.1, 5.1.2.1.2, 5.3,
+/// 5.4, TS 36.322 5.2.1, 5.2.3): the laws `runs_deliver`, `runs_report_truly`, `runs_take_rightly`
+/// and `runs_fail_rightly`.
 pub fn l2_main<S: Source, K: Sink, E: Sink>(
     alloc: Global,
     words: &Words,
@@ -56,10 +59,14 @@ pub fn l2_main<S: Source, K: Sink, E: Sink>(
     ensures promises { EveryJournal }
     ensures delivered { RunsDeliver }
     ensures statuses { RunsReportTruly }
+    ensures takes { RunsTakeRightly }
+    ensures fails { RunsFailRightly }
 {
     every_journal();
     runs_deliver();
     runs_report_truly();
+    runs_take_rightly();
+    runs_fail_rightly();
     match words.command() {
         Ok(Some(command)) => obey(alloc, command, source, out, errs),
         Ok(None) => refuse_words(USAGE, errs),

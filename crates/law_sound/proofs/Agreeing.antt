@@ -1,11 +1,12 @@
 -- Where an account of what the PDUs of a flow tell and the history of its lives agree, the same
 -- COUNTs have come.
-use Rattle.std.proofs.Common.{◌≡◌, ◌<◌, ℕ, ◌+◌, ◌-◌, Bool, true, false, ◌||◌, ◌&&◌, List, []}
-use Rattle.std.proofs.Common.{◌∷◌, length, map, Option, Some, None, refl, ap, sym, ◌∙◌, arith, nat_lt}
+use Rattle.std.proofs.Common.{◌≡◌, ◌<◌, ◌≤◌, ℕ, zero, suc, ◌+◌, ◌-◌, Bool, true, false, ◌||◌, ◌&&◌, List, []}
+use Rattle.std.proofs.Common.{◌∷◌, length, map, Option, Some, None, inl, inr, refl, ap, sym, ◌∙◌, arith, nat_lt}
 use Rattle.std.specs.Prelude.{slice_index}
 use Rattle.std.specs.List.{AllByRecursion}
-use Rattle.std.proofs.lemmas.Bool.{ltb-true, lt-ltb}
+use Rattle.std.proofs.lemmas.Bool.{ltb-true, lt-ltb, le-ltb, cases_lt, and_parts, and_from}
 use Rattle.std.proofs.lemmas.List.{length-map}
+use Rattle.l2_num.specs.Least.{IsLeast}
 use Rattle.law_words.specs.Arrivals.{Given, Account, has_place, whole_in, sequence_in, has_come, renewed}
 use Rattle.law_words.specs.Arrivals as words
 use Rattle.law_words.specs.Stretches.{octet_has_come, all_from}
@@ -93,6 +94,26 @@ front_next es k lt =
     ∙ ap (λ (b : Bool). front es k && (b && all_between (place_came es) (place_of (sdu_sizes es) k) (sdu_end es k)))
     (sym (lt-ltb k (length (sdu_sizes es)) lt))
 
+-- where all before the k-th are whole, and only there
+front_all : (es : List FlowEvent) (k : ℕ) → ((j : ℕ) → j < k → is_whole_sdu es j ≡ true) → front es k ≡ true
+front_all es zero all = front_none es
+front_all es (suc k) all =
+    let at : suc k ≡ k + 1 = omega arith in
+    let whole = all k (omega arith) in
+    let there = (and_parts (nat_lt k (length (sdu_sizes es))) _ whole).0 in
+    ap (λ (n : ℕ). front es n) at ∙ front_next es k (ltb-true k (length (sdu_sizes es)) there)
+    ∙ ap (λ (b : Bool). b && is_whole_sdu es k) (front_all es k (λ j lt. all j (omega (arith, lt)))) ∙ whole
+
+front_before : (es : List FlowEvent) (k n : ℕ) → k + n ≤ length (sdu_sizes es) → front es (k + n) ≡ true
+    → front es k ≡ true
+front_before es k zero le is =
+    let at : k ≡ k + 0 = omega arith in ap (λ (m : ℕ). front es m) at ∙ is
+front_before es k (suc n) le is =
+    let at : k + n + 1 ≡ k + suc n = omega arith in
+    front_before es k n (omega (arith, le))
+    (and_parts (front es (k + n)) (is_whole_sdu es (k + n))
+    (sym (front_next es (k + n) (omega (arith, le))) ∙ ap (λ (m : ℕ). front es m) at ∙ is)).0
+
 sequence_passes : (p : ℕ → Bool) (es : List FlowEvent) (k : ℕ) (given : List Given) (count : ℕ)
     → ((j : ℕ) → p j ≡ is_whole_sdu es j) → k + length given ≡ length (sdu_sizes es)
     → passes_with (is_in_sequence es) k (map (λ (g : Given). g.count) given) count
@@ -125,7 +146,7 @@ sequence_passes p es k (g ∷ given) count same all =
 
 -- ---- the same has come
 
-place_whole : (a : Account) (es : List LifeEvent) → Agrees a es → (k : ℕ)
+pub place_whole : (a : Account) (es : List LifeEvent) → Agrees a es → (k : ℕ)
     → has_place a k ≡ is_whole_sdu (running es) k
 place_whole a es h k =
     ap (λ (xs : List ℕ). stretches.has_arrived xs a.rlc.fields a.rlc.came k) h.sizes
@@ -143,6 +164,38 @@ same_come a es h count =
     (sym (sequence_passes (has_place a) (running es) 0 a.given count (place_whole a es h) many
     ∙ ap (λ (b : Bool). b && sequence_in (has_place a) 0 a.given count) (front_none (running es)))
     ∙ ap (λ (os : List (Option ℕ)). passes_with (is_in_sequence (running es)) 0 os count) h.counts)
+
+-- those in sequence are the ones before the first that isn't whole
+pub sequence_by_passed : (a : Account) (es : List LifeEvent) (passed : ℕ) → Agrees a es
+    → IsLeast (has_place a) 0 passed → (k : ℕ) → is_in_sequence (running es) k ≡ nat_lt k passed
+sequence_by_passed a es passed h least k = elim (cases_lt k passed) [
+  | inl lt ↦
+      and_from (nat_lt k many) (front (running es) (k + 1))
+      (and_parts (nat_lt k many) _ (whole k lt)).0
+      (front_all (running es) (k + 1) (λ j low. whole j (omega (arith, low, lt))))
+      ∙ sym (lt-ltb k passed lt)
+  | inr le ↦ by (is_in_sequence (running es) k) refl le ∙ sym (le-ltb k passed le)
+]
+  where
+    many : ℕ
+    many = length (sdu_sizes (running es))
+
+    whole : (j : ℕ) → j < passed → is_whole_sdu (running es) j ≡ true
+    whole j lt = sym (place_whole a es h j) ∙ least.before j (omega arith) lt
+
+    by : (b : Bool) → is_in_sequence (running es) k ≡ b → passed ≤ k → is_in_sequence (running es) k ≡ false
+    by false is le = is
+    by true is le =
+        let both = and_parts (nat_lt k many) (front (running es) (k + 1)) is in
+        let low : k < many = ltb-true k many both.0 in
+        let at : k + 1 ≡ passed + 1 + (k - passed) = omega (arith, le) in
+        let up : front (running es) (passed + 1) ≡ true =
+        front_before (running es) (passed + 1) (k - passed) (omega (arith, le, low))
+        (ap (λ (m : ℕ). front (running es) m) (sym at) ∙ both.1) in
+        let also : is_whole_sdu (running es) passed ≡ true =
+        (and_parts (front (running es) passed) (is_whole_sdu (running es) passed)
+        (sym (front_next (running es) passed (omega (arith, le, low))) ∙ up)).1 in
+        absurd (let no = sym (place_whole a es h passed ∙ also) ∙ least.refused in cc)
 
 -- a life ends
 pub agrees_ended : (a : Account) (es : List LifeEvent) → Agrees a es → Agrees (renewed a) (LifeEnded ∷ es)

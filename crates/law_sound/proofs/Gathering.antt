@@ -142,7 +142,7 @@ data_gathered from w front l hows.Tm pdu d n = absurd d
 
 -- ---- a STATUS
 
-back : (side : Side) → other (other side) ≡ side
+pub back : (side : Side) → other (other side) ≡ side
 back Nb = refl
 back Ue = refl
 

@@ -43,7 +43,7 @@ use Rattle.law_run.proofs.RightForm.{form_is_right}
 use Rattle.law_run.proofs.Standing.{lines_tell}
 use Rattle.law_sound.specs.GatherLaws.{HasCount}
 use Rattle.law_sound.specs.StepReading.{HasCountOn, AreFormed}
-use Rattle.law_sound.proofs.Groups.{are_kinds, layout_by}
+use Rattle.law_sound.proofs.GroupKinds.{layout_by, are_kinds}
 
 -- ---- how PDUs of an acknowledged channel are read, and what is told of COUNTs
 

@@ -65,8 +65,9 @@ use Rattle.law_sound.proofs.AlikeJournals.{tell_alike}
 use Rattle.law_sound.proofs.Delivering.{bearer_is}
 use Rattle.law_sound.proofs.Elsewhere.{others_tell_none}
 use Rattle.law_sound.proofs.ElsewhereRight.{others_are_right}
-use Rattle.law_sound.proofs.GroupReading.{groups_are_read, reads_alike}
-use Rattle.law_sound.proofs.Groups.{are_kinds, layout_by}
+use Rattle.law_sound.proofs.GroupCarrying.{reads_alike}
+use Rattle.law_sound.proofs.GroupReading.{groups_are_read}
+use Rattle.law_sound.proofs.GroupKinds.{layout_by, are_kinds}
 use Rattle.law_sound.proofs.StepLogs.{records_then}
 use Rattle.law_sound.proofs.StepStatuses.{ignored_next, ignored_both}
 

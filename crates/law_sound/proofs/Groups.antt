@@ -1,33 +1,27 @@
 -- Group by group, the account of what a journal's PDUs tell and the history that it tells agree.
-use Rattle.std.proofs.Common.{◌≡◌, ◌≤◌, ℕ, zero, suc, ◌==◌, Bool, true, false, List, [], ◌∷◌}
+use Rattle.std.proofs.Common.{◌≡◌, ◌≤◌, ℕ, ◌==◌, Bool, true, false, List, [], ◌∷◌}
 use Rattle.std.proofs.Common.{◌++◌, length}
-use Rattle.std.proofs.Common.{replicate, Option, Some, None, refl, ap, sym, ◌∙◌, inl, inr, subst, if◌then◌else◌, arith}
-use Rattle.std.proofs.Common.{slice_index_or, slice_set}
+use Rattle.std.proofs.Common.{Option, Some, None, refl, ap, sym, ◌∙◌, subst, if◌then◌else◌}
 use Rattle.std.specs.List.{AllByRecursion, filter}
-use Rattle.std.proofs.lemmas.Bool.{cases_eq, eq-eqb, ne_eqb}
-use Rattle.std.proofs.lemmas.List.{length-set, get_or-set_same, get_or-set_other}
-use Rattle.l2_types.specs.declared.channel.Kind.{Kind}
 use Rattle.l2_types.specs.declared.channel.Kind.TheVariants as bearers
 use Rattle.l2_types.specs.declared.side.Side.{Side}
 use Rattle.l2_types.specs.declared.side.Side.TheVariants.{Nb, Ue}
-use Rattle.pdcp_pdu.specs.declared.pdu.PdcpKind.TheVariants as pdcp
 use Rattle.bearer_types.specs.declared.config.BearerConfig.{BearerConfig}
 use Rattle.air_record.specs.declared.line.Line.{Line}
 use Rattle.air_record.specs.declared.line.Line.TheVariants as lines
 use Rattle.air_record.specs.declared.record.Record.{Record}
 use Rattle.air_text.specs.Groups.{Group}
 use Rattle.pdu_show.specs.declared.kinds.Layout.{Layout}
-use Rattle.pdu_show.specs.declared.kinds.Layout.TheVariants as layouts
-use Rattle.pdu_show.specs.Kinds.{layout_of}
 use Rattle.law_words.specs.Arrivals.{Account, AccountEntry, Renews, no_account, account, renewed}
 use Rattle.promises.specs.Air.{ttis}
 use Rattle.promises.specs.Arrival.{account_of, entries_from, entries_ended, entries_in}
-use Rattle.promises.specs.Blocks.{kinds, with_bearer}
+use Rattle.promises.specs.Blocks.{kinds}
 use Rattle.promises.specs.Configs.{config_of}
 use Rattle.promises.specs.Names.{SentPdu}
 use Rattle.promises.specs.Parts.{is_handover}
 use Rattle.promises.specs.RightForm.{HasForm, is_built}
 use Rattle.promises.specs.Telling.{LineTells, channels}
+use Rattle.journal_form.specs.Checking.{Building}
 use Rattle.journal_form.proofs.Units.{complete, Form}
 use Rattle.journal_lives.specs.LifeEvents.{LifeEvent}
 use Rattle.journal_flows.specs.Gathering.{Journal, Sending, MayTake, nothing_sent, sending_of, behind, behind_line}
@@ -48,69 +42,12 @@ use Rattle.law_sound.proofs.Numbering.{behind_all, behind_both, numbers_rest}
 use Rattle.law_sound.proofs.Flying.{Flying, all_air, AreFlown}
 use Rattle.law_sound.proofs.Pending.{Pending, none_pending, pending, settled, after_records, IsUnder, all_soon}
 use Rattle.law_sound.proofs.Young.{Ages, none_aged, all_age, AreYoung}
-use Rattle.law_sound.proofs.Records.{Walked, records_walk, account_both, own_rest, sent_behind, after_course}
-use Rattle.law_sound.proofs.Records.{all_course}
+use Rattle.law_sound.proofs.Records.{Walked, AreRead, records_walk, account_both, own_rest, sent_behind}
+use Rattle.law_sound.proofs.Records.{after_course, all_course}
 use Rattle.law_sound.proofs.Still.{still_entries, still_sent, handover_still}
 use Rattle.law_sound.proofs.Telling.{flow}
+use Rattle.law_sound.proofs.GroupKinds.{acked_layout}
 use Rattle.law_sound.proofs.Walk.{Stands, Course}
-
--- ---- how PDUs are read
-
-abbrev pub layout_by : Option BearerConfig → Option Layout
-layout_by None = None
-layout_by (Some c) = Some (layout_of c.kind c.rlc_bits c.pdcp_bits)
-
-pub record AreKinds (past : List Group) : Type 0 where
-  pub size : length (kinds past) ≡ 11
-  pub is : (l : ℕ) → l ≤ 10 → slice_index_or (kinds past) l None ≡ layout_by (config_of l past)
-
-abbrev nothing : Option Layout
-nothing = None
-
-none_there : (n l : ℕ) → slice_index_or (replicate n nothing) l nothing ≡ nothing
-none_there zero l = refl
-none_there (suc n) zero = refl
-none_there (suc n) (suc l) = none_there n l
-
-layout_at : (config : BearerConfig) (past : List Group) (l : ℕ) → AreKinds past → l ≤ 10
-    → slice_index_or (with_bearer config (kinds past)) l None
-    ≡ layout_by (if config.channel.lcid == l then Some config else config_of l past)
-layout_at config past l k low = elim (cases_eq l config.channel.lcid) [
-  | inl here ↦
-      ap (λ (n : ℕ). slice_index_or
-      (slice_set (kinds past) n (Some (layout_of config.kind config.rlc_bits config.pdcp_bits))) l None) (sym here)
-      ∙ get_or-set_same (kinds past) l (Some (layout_of config.kind config.rlc_bits config.pdcp_bits)) None
-      (omega (arith, k.size))
-      ∙ ap (λ (b : Bool). layout_by (if b then Some config else config_of l past))
-      (sym (eq-eqb config.channel.lcid l (sym here)))
-  | inr apart ↦
-      get_or-set_other (kinds past) config.channel.lcid l
-      (Some (layout_of config.kind config.rlc_bits config.pdcp_bits)) None apart
-      ∙ k.is l low
-      ∙ ap (λ (b : Bool). layout_by (if b then Some config else config_of l past))
-      (sym (ne_eqb config.channel.lcid l (λ same. apart (sym same))))
-]
-
-line_kinds : (number : ℕ) (line : Line) (events : List Record) (past : List Group) → AreKinds past
-    → AreKinds (record { number = number; line = line; events = events } ∷ past)
-line_kinds number (lines.Bearer config options) events past k = record {
-  size =
-      length-set (kinds past) config.channel.lcid (Some (layout_of config.kind config.rlc_bits config.pdcp_bits))
-      ∙ k.size;
-  is = λ l low. layout_at config past l k low;
-}
-line_kinds number line events past k = record { size = k.size; is = k.is }
-
-pub are_kinds : (past : List Group) → AreKinds past
-are_kinds [] = record { size = refl; is = λ l low. none_there 11 l }
-are_kinds (g ∷ past) = line_kinds g.number g.line g.events past (are_kinds past)
-
-acked_layout : (past : List Group) (l : ℕ) (config : BearerConfig) → l ≤ 10 → config_of l past ≡ Some config
-    → config.kind ≡ bearers.Am
-    → slice_index_or (kinds past) l None ≡ Some (layouts.Am (pdcp.Am config.pdcp_bits))
-acked_layout past l config low is kind =
-    (are_kinds past).is l low ∙ ap layout_by is
-    ∙ ap (λ (k : Kind). Some (layout_of k config.rlc_bits config.pdcp_bits)) kind
 
 -- ---- behind groups
 
@@ -148,7 +85,7 @@ line_silent : (line : Line) (a : Account) → Agrees a [] → Agrees (account (e
 line_silent (lines.Handover user rrc integrity) a h = renewed_none a h
 line_silent line a h = h
 
-none_agree : Agrees no_account []
+pub none_agree : Agrees no_account []
 none_agree =
     record { fields = refl; came = refl; within = tt; counts = refl; sizes = refl; ended = λ count. refl }
 
@@ -316,6 +253,10 @@ form_of : (from : Side) (ks : List (Option Layout)) (told : List Record) → Has
 form_of Nb ks told h = h.down
 form_of Ue ks told h = h.up
 
+-- nothing is sent yet
+abbrev pub none_built : Building
+none_built = record { sent = []; right = true }
+
 abbrev GroupWalks : MayTake → Side → ℕ → BearerConfig → Group → List Group → Account → Type 0
 GroupWalks may_take from l config g past a =
     Walked from l (behind_all l (sent_in from g.events) (length a.rlc.fields))
@@ -323,6 +264,26 @@ GroupWalks may_take from l config g past a =
     (within histories may_take g past (gathered may_take past)).flows
     (sending_of from (within histories may_take g past (gathered may_take past)))
     (all_course from l g.events (course from l past))
+
+-- they may be read
+pub group_reads : (may_take : MayTake) (from : Side) (l : ℕ) (config : BearerConfig) (g : Group) (past : List Group)
+    (a : Account) → config.kind ≡ bearers.Am → config_of l (g ∷ past) ≡ Some config
+    → GroupHolds may_take from l g past → IsUnder (pending from l past) (ages from past)
+    → AreNumbers l (length a.rlc.fields) (sent_in from g.events)
+    → AreOwn a (entries_in config.pdcp_bits l from [] g.events)
+    → AreRead from l config.pdcp_bits (kinds (g ∷ past)) g.events a [] none_built (course from l past)
+group_reads may_take from l config g past a kind is h under numbers own =
+    let single = subst (λ (n : ℕ). AreSingle from l g.events n) (sym (none_named from l past))
+    h.single in
+    let ks = kinds (g ∷ past) in
+    record {
+      flown = h.flown;
+      soon = (all_soon from l g.events (pending from l past) (ages from past) single under h.young).soon;
+      counts = h.counts config is kind;
+      right = complete from ks g.events none_built refl (form_of from ks g.events h.form);
+      numbers = numbers;
+      own = own;
+    }
 
 group_walks : (may_take : MayTake) (from : Side) (l : ℕ) (config : BearerConfig) (g : Group) (past : List Group)
     (a : Account) → l ≤ 10 → config.kind ≡ bearers.Am → config_of l (g ∷ past) ≡ Some config
@@ -332,15 +293,10 @@ group_walks : (may_take : MayTake) (from : Side) (l : ℕ) (config : BearerConfi
     → AreNumbers l (length a.rlc.fields) (sent_in from g.events)
     → AreOwn a (entries_in config.pdcp_bits l from [] g.events) → GroupWalks may_take from l config g past a
 group_walks may_take from l config g past a low kind is h under stands numbers own =
-    let single = subst (λ (n : ℕ). AreSingle from l g.events n) (sym (none_named from l past))
-    h.single in
-    let soon = (all_soon from l g.events (pending from l past) (ages from past) single under h.young).soon in
-    let ks = kinds (g ∷ past) in
-    records_walk from l config.pdcp_bits ks may_take past g.events [] a []
-    (behind_line histories g.line (gathered may_take past)) (record { sent = []; right = true }) (course from l past)
-    (acked_layout (g ∷ past) l config low is kind) stands h.flown soon
-    (h.counts config is kind)
-    (complete from ks g.events (record { sent = []; right = true }) refl (form_of from ks g.events h.form)) numbers own
+    records_walk from l config.pdcp_bits (kinds (g ∷ past)) may_take past g.events [] a []
+    (behind_line histories g.line (gathered may_take past)) none_built (course from l past)
+    (acked_layout (g ∷ past) l config low is kind) stands
+    (group_reads may_take from l config g past a kind is h under numbers own)
 
 -- what flies, and what is told of it, record by record
 pub course_air : (from : Side) (l : ℕ) (told : List Record) (x : Course)
@@ -371,10 +327,10 @@ stands_on from l a sent f s x past same due h =
     })
 
 -- a line that is neither of a handover nor of the channel's bearer
-record IsPlain (l : ℕ) (line : Line) : Type 0 where
-  stays : is_handover line ≡ false
-  stays_there : gathering.is_handover line ≡ false
-  none_ended : entries_ended line ≡ []
+pub record IsPlain (l : ℕ) (line : Line) : Type 0 where
+  pub stays : is_handover line ≡ false
+  pub stays_there : gathering.is_handover line ≡ false
+  pub none_ended : entries_ended line ≡ []
 
 -- with the account as it is made
 record StandsAt (may_take : MayTake) (from : Side) (l : ℕ) (g : Group) (past : List Group) (a : Account) : Type 0 where
@@ -399,6 +355,49 @@ group_under from l g past stays h =
     (if b then none_aged else all_age from g.events (ages from past))) (sym stays)
     (settled_under (after_records from l g.events (pending from l past)) (all_age from g.events (ages from past)) h)
 
+-- what stands as its group begins
+pub record Begins (may_take : MayTake) (from : Side) (l : ℕ) (config : BearerConfig) (g : Group) (past : List Group)
+    : Type 0 where
+  pub stands : Stands from l (account_of config l from past) []
+      (behind_line histories g.line (gathered may_take past)).flows
+      (sending_of from (behind_line histories g.line (gathered may_take past))) [] (course from l past)
+  pub since : sent_since from (g ∷ past) ≡ sent_since from past ++ sent_in from g.events
+  pub numbers : AreNumbers l (length (account_of config l from past).rlc.fields) (sent_in from g.events)
+  pub own : AreOwn (account_of config l from past) (entries_in config.pdcp_bits l from [] g.events)
+
+pub plain_begins : (may_take : MayTake) (from : Side) (l : ℕ) (config : BearerConfig) (g : Group) (past : List Group)
+    → config.kind ≡ bearers.Am → config_of l (g ∷ past) ≡ Some config → GroupHolds may_take from l g past
+    → IsPlain l g.line
+    → flow from l (behind_line histories g.line (gathered may_take past)).flows
+    ≡ flow from l (gathered may_take past).flows
+    → IsBehind may_take from l config past → Begins may_take from l config g past
+plain_begins may_take from l config g past kind is h plain same before =
+    let since : sent_since from (g ∷ past) ≡ sent_since from past ++ sent_in from g.events =
+    ap (λ (b : Bool). (if b then [] else sent_since from past) ++ sent_in from g.events) plain.stays in
+    record {
+      stands = subst (λ (s : Sending). Stands from l (account_of config l from past) []
+          (behind_line histories g.line (gathered may_take past)).flows s [] (course from l past))
+          (sym (sending_line from g.line (gathered may_take past)))
+          (record {
+            agrees = subst (λ (es : List LifeEvent). Agrees (account_of config l from past) es) (sym same)
+                before.stands.agrees;
+            named_is = before.stands.named_is;
+            new_are = before.stands.new_are;
+            size = before.stands.size;
+            held = before.stands.held;
+            last = tt;
+          });
+      since = since;
+      numbers = subst (λ (n : ℕ). AreNumbers l n (sent_in from g.events)) (sym before.next_is)
+          (numbers_rest l 0 (sent_since from past) (sent_in from g.events)
+          (subst (λ (ss : List SentPdu). AreNumbers l 0 ss) since (h.numbers config is kind)));
+      own = subst (λ (hs : List AccountEntry).
+          AreOwn (account_of config l from past) (hs ++ entries_in config.pdcp_bits l from [] g.events))
+          plain.none_ended
+          (own_rest no_account (entries_from config.pdcp_bits l from past)
+          (entries_ended g.line ++ entries_in config.pdcp_bits l from [] g.events) (h.own config is kind));
+    }
+
 plain_behind : (may_take : MayTake) (from : Side) (l : ℕ) (config : BearerConfig) (g : Group) (past : List Group)
     → l ≤ 10 → config.kind ≡ bearers.Am → config_of l (g ∷ past) ≡ Some config → GroupHolds may_take from l g past
     → IsPlain l g.line
@@ -408,29 +407,10 @@ plain_behind : (may_take : MayTake) (from : Side) (l : ℕ) (config : BearerConf
 plain_behind may_take from l config g past low kind is h plain same before =
     let a : Account = account_of config l from past in
     let j : Journal Histories = within histories may_take g past (gathered may_take past) in
-    let stands = subst (λ (s : Sending). Stands from l (account_of config l from past) []
-    (behind_line histories g.line (gathered may_take past)).flows s [] (course from l past))
-    (sym (sending_line from g.line (gathered may_take past)))
-    (record {
-      agrees = subst (λ (es : List LifeEvent). Agrees (account_of config l from past) es) (sym same)
-          before.stands.agrees;
-      named_is = before.stands.named_is;
-      new_are = before.stands.new_are;
-      size = before.stands.size;
-      held = before.stands.held;
-      last = tt;
-    }) in
-    let since : sent_since from (g ∷ past) ≡ sent_since from past ++ sent_in from g.events =
-    ap (λ (b : Bool). (if b then [] else sent_since from past) ++ sent_in from g.events) plain.stays in
-    let numbers = subst (λ (n : ℕ). AreNumbers l n (sent_in from g.events)) (sym before.next_is)
-    (numbers_rest l 0 (sent_since from past) (sent_in from g.events)
-    (subst (λ (ss : List SentPdu). AreNumbers l 0 ss) since (h.numbers config is kind))) in
-    let own : AreOwn (account_of config l from past) (entries_in config.pdcp_bits l from [] g.events) =
-    subst (λ (hs : List AccountEntry).
-    AreOwn (account_of config l from past) (hs ++ entries_in config.pdcp_bits l from [] g.events)) plain.none_ended
-    (own_rest no_account (entries_from config.pdcp_bits l from past)
-    (entries_ended g.line ++ entries_in config.pdcp_bits l from [] g.events) (h.own config is kind)) in
-    let w = group_walks may_take from l config g past a low kind is h before.under stands numbers own in
+    let begins = plain_begins may_take from l config g past kind is h plain same before in
+    let since = begins.since in
+    let w = group_walks may_take from l config g past a low kind is h before.under begins.stands begins.numbers
+    begins.own in
     let account_is : account (entries_in config.pdcp_bits l from [] g.events) (account_of config l from past)
     ≡ account_of config l from (g ∷ past) =
     sym (account_both (entries_from config.pdcp_bits l from past)
@@ -520,7 +500,7 @@ handover_behind may_take from l number user rrc integrity events config past low
 
 -- ---- group by group
 
-other_flow : (from : Side) (l : ℕ) (config : BearerConfig) (f : Histories) → (config.channel.lcid == l) ≡ false
+pub other_flow : (from : Side) (l : ℕ) (config : BearerConfig) (f : Histories) → (config.channel.lcid == l) ≡ false
     → flow from l (histories.begins config f) ≡ flow from l f
 other_flow from l config f e = ap (λ (b : Bool). if b then [] else flow from l f) e
 
@@ -575,20 +555,23 @@ tells_before g past h = record {
   few = h.few.1;
 }
 
+pub group_holds : (may_take : MayTake) (from : Side) (l : ℕ) (g : Group) (past : List Group) → TellsFlows (g ∷ past)
+    → GroupHolds may_take from l g past
+group_holds may_take from l g past h = record {
+  form = h.form.0;
+  flown = flown_at_once from g past (begun from past) h.order (all_sent from g past h.air);
+  tells = h.order.0;
+  first = h.bearers.0;
+  counts = λ config is kind. h.counts.0 l config is kind;
+  numbers = λ config is kind. h.numbers.0 from l config is kind;
+  single = group_single from l g past h.order;
+  young = all_young from g past h.air h.few;
+  own = λ config is kind. h.own.0 from l config is kind;
+}
+
 pub all_behind : (may_take : MayTake) (from : Side) (l : ℕ) (past : List Group) → l ≤ 10 → TellsFlows past
     → Behind may_take from l past
 all_behind may_take from l [] low h = λ config is kind. absurd (none_is config is)
 all_behind may_take from l (g ∷ past) low h =
-    group_behind may_take from l g.number g.line g.events past low
-    (record {
-      form = h.form.0;
-      flown = flown_at_once from g past (begun from past) h.order (all_sent from g past h.air);
-      tells = h.order.0;
-      first = h.bearers.0;
-      counts = λ config is kind. h.counts.0 l config is kind;
-      numbers = λ config is kind. h.numbers.0 from l config is kind;
-      single = group_single from l g past h.order;
-      young = all_young from g past h.air h.few;
-      own = λ config is kind. h.own.0 from l config is kind;
-    })
+    group_behind may_take from l g.number g.line g.events past low (group_holds may_take from l g past h)
     (all_behind may_take from l past low (tells_before g past h))

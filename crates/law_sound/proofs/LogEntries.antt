@@ -13,8 +13,8 @@ use Rattle.mac_pdu.specs.declared.item.Direction.TheVariants as directions
 use Rattle.promises.specs.Events.{is_of_loop}
 use Rattle.promises.specs.Records.{is_got}
 use Rattle.law_run.specs.TwoEnds.Logs.{LogEntry, Tells, Builds, Hears, Flight, process_of, flight_behind, logged_at}
-use Rattle.law_run.specs.TwoEnds.Logs.{logged}
-use Rattle.law_run.proofs.TwoEnds.Going.{flight_in, flight_more, logged_more}
+use Rattle.law_run.specs.TwoEnds.Logs.{logged, flight_in}
+use Rattle.law_run.proofs.TwoEnds.Along.{flight_more, logged_more}
 
 -- ---- the record of the first entry
 

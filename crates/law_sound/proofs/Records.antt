@@ -389,61 +389,108 @@ pub record Walked (from : Side) (l next : ℕ) (a : Account) (sent : List ℕ) (
   pub stands : Stands from l a sent f s [] x
   pub next_is : length a.rlc.fields ≡ next
 
-abbrev Walks : Side → ℕ → ℕ → List (Option Layout) → MayTake → List Group → List Record → List Record → Account
-    → List ℕ → Journal Histories → List SentPdu → Course → Type 0
-Walks from l bits ks may_take past before told a sent j named x =
-    Walked from l (behind_all l (named ++ sent_in from told) (length a.rlc.fields))
-    (account (entries_in bits l from sent told) a) (sent_behind told sent)
+-- records that may be read in turn, behind what stands
+pub record AreRead (from : Side) (l bits : ℕ) (ks : List (Option Layout)) (told : List Record) (a : Account)
+    (sent : List ℕ) (b : Building) (x : Course) : Type 0 where
+  pub flown : AreFlown from told x.air
+  pub soon : AllComeSoon from l told x.pending
+  pub counts : AllByRecursion (TellsCount l) told
+  pub right : (ends (all_built from ks told b)).right ≡ true
+  pub numbers : AreNumbers l (length a.rlc.fields) (b.sent ++ sent_in from told)
+  pub own : AreOwn a (entries_in bits l from sent told)
+
+goes_then : (from : Side) (l : ℕ) (hs gs : List AccountEntry) (a : Account) (named sends more : List SentPdu)
+    (sent sent' : List ℕ) (f f' : Histories) (s s' : Sending) (others last : List SentPdu) (x y : Course)
+    → Goes from l hs a named sends sent f s others x → Goes from l gs (account hs a) others more sent' f' s' last y
+    → Goes from l (hs ++ gs) a named (sends ++ more) sent' f' s' last y
+goes_then from l hs gs a named sends more sent sent' f f' s s' others last x y g k =
+    let both = account_both hs gs a in
+    record {
+      stands = subst (λ (z : Account). Stands from l z sent' f' s' last y) (sym both) k.stands;
+      ahead =
+          ap (λ (z : Account). behind_all l last (length z.rlc.fields)) both
+          ∙ k.ahead
+          ∙ ap (behind_all l more) g.ahead
+          ∙ sym (behind_both l sends more (behind_all l named (length a.rlc.fields)));
+      numbers = λ ys many.
+          subst (λ (z : Account). AreNumbers l (length z.rlc.fields) (last ++ ys)) (sym both)
+          (k.numbers ys (g.numbers (more ++ ys)
+          (subst (λ (ss : List SentPdu). AreNumbers l (length a.rlc.fields) (named ++ ss))
+          (append_assoc sends more ys) many)));
+    }
+
+abbrev RecordsGo : Side → ℕ → ℕ → List (Option Layout) → MayTake → List Group → List Record → List Record → Account
+    → List ℕ → Journal Histories → Building → Course → Type 0
+RecordsGo from l bits ks may_take past before told a sent j b x =
+    Goes from l (entries_in bits l from sent told) a b.sent (sent_in from told) (sent_behind told sent)
     (behind_records histories may_take past ks before told j).flows
-    (sending_of from (behind_records histories may_take past ks before told j)) (all_course from l told x)
+    (sending_of from (behind_records histories may_take past ks before told j)) (all_built from ks told b).sent
+    (all_course from l told x)
+
+-- the first of them
+pub records_go : (from : Side) (l bits : ℕ) (ks : List (Option Layout)) (may_take : MayTake) (past : List Group)
+    (told rest before : List Record) (a : Account) (sent : List ℕ) (j : Journal Histories) (b : Building) (x : Course)
+    → slice_index_or ks l None ≡ Some (layouts.Am (pdcp.Am bits))
+    → Stands from l a sent j.flows (sending_of from j) b.sent x
+    → AreRead from l bits ks (told ++ rest) a sent b x → RecordsGo from l bits ks may_take past before told a sent j b x
+records_go from l bits ks may_take past [] rest before a sent j b x layout h r =
+    goes_on from l [] a b.sent [] sent j.flows (sending_of from j) x refl refl h
+records_go from l bits ks may_take past (one ∷ told) rest before a sent j b x layout h r =
+    let k : Journal Histories = behind_record histories ks (may_take past before one) one j in
+    let c : Building = told_to from ks one b in
+    let now = entries_at bits l from sent one in
+    let behind = entries_in bits l from (told_last.sent_last one sent) (told ++ rest) in
+    let many = subst (λ (ss : List SentPdu). AreNumbers l (length a.rlc.fields) (b.sent ++ ss))
+    (sent_next from one (told ++ rest)) r.numbers in
+    let g = record_goes from l bits ks (may_take past before one) one a sent j b x layout h r.flown.0 r.soon.0
+    r.counts.0 (was_right from ks (told ++ rest) c r.right)
+    (numbers_first l (length a.rlc.fields) b.sent (sent_in from (one ∷ told ++ rest)) r.numbers)
+    (own_first a now behind r.own) in
+    let all = records_go from l bits ks may_take past told rest (one ∷ before) (account now a)
+    (told_last.sent_last one sent) k c (after_course from l one x) layout g.stands
+    (record {
+      flown = r.flown.1;
+      soon = r.soon.1;
+      counts = r.counts.1;
+      right = r.right;
+      numbers = g.numbers (sent_in from (told ++ rest)) many;
+      own = own_rest a now behind r.own;
+    }) in
+    subst (λ (ss : List SentPdu). Goes from l (entries_in bits l from sent (one ∷ told)) a b.sent ss
+    (sent_behind told (told_last.sent_last one sent))
+    (behind_records histories may_take past ks (one ∷ before) told k).flows
+    (sending_of from (behind_records histories may_take past ks (one ∷ before) told k)) (all_built from ks told c).sent
+    (all_course from l told (after_course from l one x))) (sym (sent_next from one told))
+    (goes_then from l now (entries_in bits l from (told_last.sent_last one sent) told) a b.sent
+    (sent_in from (one ∷ [])) (sent_in from told) (told_last.sent_last one sent)
+    (sent_behind told (told_last.sent_last one sent)) k.flows
+    (behind_records histories may_take past ks (one ∷ before) told k).flows (sending_of from k)
+    (sending_of from (behind_records histories may_take past ks (one ∷ before) told k)) c.sent
+    (all_built from ks told c).sent (after_course from l one x) (all_course from l told (after_course from l one x))
+    g all)
 
 none_named : (named : List SentPdu) → none_sent named ≡ true → named ≡ []
 none_named [] e = refl
 none_named (s ∷ named) e = absurd (let bad = e in cc)
 
+-- behind all of them none is named that isn't in a block
 pub records_walk : (from : Side) (l bits : ℕ) (ks : List (Option Layout)) (may_take : MayTake) (past : List Group)
     (told before : List Record) (a : Account) (sent : List ℕ) (j : Journal Histories) (b : Building) (x : Course)
     → slice_index_or ks l None ≡ Some (layouts.Am (pdcp.Am bits))
-    → Stands from l a sent j.flows (sending_of from j) b.sent x → AreFlown from told x.air
-    → AllComeSoon from l told x.pending → AllByRecursion (TellsCount l) told
-    → (ends (all_built from ks told b)).right ≡ true
-    → AreNumbers l (length a.rlc.fields) (b.sent ++ sent_in from told) → AreOwn a (entries_in bits l from sent told)
-    → Walks from l bits ks may_take past before told a sent j b.sent x
-records_walk from l bits ks may_take past [] before a sent j b x layout h flown due has right numbers own =
-    let none = none_named b.sent (and_parts b.right (none_sent b.sent) right).1 in
-    subst (λ (named : List SentPdu). Stands from l a sent j.flows (sending_of from j) named x
-    → Walked from l (behind_all l (named ++ []) (length a.rlc.fields)) a sent j.flows (sending_of from j) x)
-    (sym none) (λ stands. record { stands = stands; next_is = refl })
-    h
-records_walk from l bits ks may_take past (one ∷ told) before a sent j b x layout h flown due has right numbers own =
-    let more = may_take past before one in
-    let k : Journal Histories = behind_record histories ks (may_take past before one) one j in
-    let c : Building = told_to from ks one b in
-    let a' : Account = account (entries_at bits l from sent one) a in
-    let right' = was_right from ks told c right in
-    let many = subst (λ (ss : List SentPdu). AreNumbers l (length a.rlc.fields) (b.sent ++ ss))
-    (sent_next from one told) numbers in
-    let g = record_goes from l bits ks more one a sent j b x layout h flown.0 due.0 has.0 right'
-    (numbers_first l (length a.rlc.fields) b.sent (sent_in from (one ∷ told)) numbers)
-    (own_first a (entries_at bits l from sent one) (entries_in bits l from (told_last.sent_last one sent) told) own) in
-    let rest = records_walk from l bits ks may_take past told (one ∷ before) a' (told_last.sent_last one sent) k c
-    (after_course from l one x) layout g.stands flown.1 due.1 has.1 right (g.numbers (sent_in from told) many)
-    (own_rest a (entries_at bits l from sent one) (entries_in bits l from (told_last.sent_last one sent) told) own) in
-    let next : length (account (entries_in bits l from (told_last.sent_last one sent) told) a').rlc.fields
-    ≡ behind_all l (b.sent ++ sent_in from (one ∷ told)) (length a.rlc.fields) =
-    rest.next_is
-    ∙ behind_both l c.sent (sent_in from told) (length a'.rlc.fields)
-    ∙ ap (behind_all l (sent_in from told)) g.ahead
-    ∙ sym (behind_both l (sent_in from (one ∷ [])) (sent_in from told)
-    (behind_all l b.sent (length a.rlc.fields)))
-    ∙ ap (λ (ss : List SentPdu). behind_all l ss (behind_all l b.sent (length a.rlc.fields)))
-    (sym (sent_next from one told))
-    ∙ sym (behind_both l b.sent (sent_in from (one ∷ told)) (length a.rlc.fields)) in
-    subst (λ (z : Account). Walked from l (behind_all l (b.sent ++ sent_in from (one ∷ told)) (length a.rlc.fields)) z
-    (sent_behind told (told_last.sent_last one sent))
-    (behind_records histories may_take past ks (one ∷ before) told k).flows
-    (sending_of from (behind_records histories may_take past ks (one ∷ before) told k))
-    (all_course from l told (after_course from l one x)))
-    (sym (account_both (entries_at bits l from sent one)
-    (entries_in bits l from (told_last.sent_last one sent) told) a))
-    (record { stands = rest.stands; next_is = next })
+    → Stands from l a sent j.flows (sending_of from j) b.sent x → AreRead from l bits ks told a sent b x
+    → Walked from l (behind_all l (b.sent ++ sent_in from told) (length a.rlc.fields))
+    (account (entries_in bits l from sent told) a) (sent_behind told sent)
+    (behind_records histories may_take past ks before told j).flows
+    (sending_of from (behind_records histories may_take past ks before told j)) (all_course from l told x)
+records_walk from l bits ks may_take past told before a sent j b x layout h r =
+    let last = (all_built from ks told b).sent in
+    let none = none_named last (and_parts (all_built from ks told b).right (none_sent last) r.right).1 in
+    let g = subst (λ (named : List SentPdu). Goes from l (entries_in bits l from sent told) a b.sent (sent_in from told)
+    (sent_behind told sent) (behind_records histories may_take past ks before told j).flows
+    (sending_of from (behind_records histories may_take past ks before told j)) named (all_course from l told x)) none
+    (records_go from l bits ks may_take past told [] before a sent j b x layout h
+    (subst (λ (ones : List Record). AreRead from l bits ks ones a sent b x) (sym (append-nil told)) r)) in
+    record {
+      stands = g.stands;
+      next_is = g.ahead ∙ sym (behind_both l b.sent (sent_in from told) (length a.rlc.fields));
+    }

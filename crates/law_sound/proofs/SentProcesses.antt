@@ -13,8 +13,7 @@ use Rattle.pdu_show.specs.declared.kinds.Layout.{Layout}
 use Rattle.promises.specs.Records.{is_got}
 use Rattle.journal_flows.specs.Gathering.{Gatherer, Journal, sending_of, behind_landing, behind_event, behind_record}
 use Rattle.journal_flows.specs.Gathering.{MayTake, behind_records}
-use Rattle.law_run.specs.TwoEnds.Logs.{Flight, process_of, process_last}
-use Rattle.law_run.proofs.TwoEnds.Going.{process_in, flight_in}
+use Rattle.law_run.specs.TwoEnds.Logs.{Flight, process_of, process_last, process_in, flight_in}
 
 module _ {F : Type 0} (g : Gatherer F) where
   event_keeps : (kinds : List (Option Layout)) (more : Bool) (by side : Side) (event : Event) (j : Journal F)

@@ -36,11 +36,10 @@ use Rattle.journal_form.proofs.Units.{told_to, all_told, was_right}
 use Rattle.journal_flows.specs.FlowsTold.{Histories, histories}
 use Rattle.journal_flows.specs.Gathering.{Journal, sending_of, behind_record}
 use Rattle.journal_status.specs.RightStatus.{ignored_told}
-use Rattle.law_run.specs.TwoEnds.Logs.{LogEntry, Hears, Flight, flight_behind, logged, logged_at}
+use Rattle.law_run.specs.TwoEnds.Logs.{LogEntry, Hears, Flight, flight_behind, logged, logged_at, flight_in}
 use Rattle.law_run.specs.TwoEnds.Logs.{all_tell, log_by, log_come}
 use Rattle.law_run.specs.TwoEnds.Logs.{Builds as EndBuilds}
 use Rattle.law_run.specs.TwoEnds.SenderLog.{BearerEntry, bearer_logs}
-use Rattle.law_run.proofs.TwoEnds.Going.{flight_in, logged_more}
 use Rattle.law_sound.specs.BesideLaws.{ReadRecord, behind_all, IsGatheredBehind, IsSentLast, IsNamed}
 use Rattle.law_sound.specs.BesideLaws.{station_of, at_side, bearer_at, RecordsOfAct, AreRecordsOf, octets_of}
 use Rattle.law_sound.specs.BesideSteps.{OfAct, OfComing, OfBuilding}
@@ -65,6 +64,7 @@ use Rattle.law_sound.proofs.StepRecords.{records_read, plain_logs, building_log,
 use Rattle.law_sound.proofs.StepRecords.{coming_records, building_records, all_told_by, are_records}
 use Rattle.law_sound.proofs.StepStatuses.{ignored_next, ignored_both, record_quiet, IsPlain, plain_truly, then_truly}
 use Rattle.law_sound.proofs.StepStatuses.{plain_same}
+use Rattle.law_run.proofs.TwoEnds.Along.{logged_more}
 
 module _ (kinds : List (Option Layout)) (kind : PdcpKind) (l : ℕ)
     (known : slice_index_or kinds l None ≡ Some (layouts.Am kind)) (a : Air) (m : Moment) (sent : Flight)

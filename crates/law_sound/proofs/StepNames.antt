@@ -16,10 +16,9 @@ use Rattle.journal_flows.specs.FlowsTold.{Histories, histories}
 use Rattle.journal_flows.specs.Gathering.{Journal, sending_of, behind_record}
 use Rattle.journal_form.specs.Checking.{Building, sends}
 use Rattle.journal_form.proofs.Units.{told_to, all_told}
-use Rattle.law_run.specs.TwoEnds.Logs.{Tells, Flight, process_of, flight_behind, logged_at}
+use Rattle.law_run.specs.TwoEnds.Logs.{Tells, Flight, process_of, flight_behind, logged_at, flight_in}
 use Rattle.law_run.specs.TwoEnds.Logs.{logged, all_tell, process_last}
 use Rattle.law_run.proofs.EmptyLists.{parts_empty}
-use Rattle.law_run.proofs.TwoEnds.Going.{flight_in}
 use Rattle.law_sound.specs.BesideLaws.{ReadRecord, behind_all}
 use Rattle.law_sound.specs.LoggedRecords.{records_of}
 use Rattle.law_sound.proofs.LogEntries.{first_entry, entry_is}

@@ -28,11 +28,10 @@ use Rattle.journal_form.specs.Checking.{Building, ends}
 use Rattle.journal_form.proofs.Units.{all_told, complete, sound}
 use Rattle.journal_flows.specs.FlowsTold.{Histories}
 use Rattle.journal_flows.specs.Gathering.{Journal, sending_of}
-use Rattle.law_run.specs.TwoEnds.Logs.{LogEntry, Hears, Flight, process_of, flight_behind, logged, logged_at}
+use Rattle.law_run.specs.TwoEnds.Logs.{LogEntry, Hears, Flight, process_of, flight_behind, logged, logged_at, flight_in}
 use Rattle.law_run.specs.TwoEnds.Logs.{all_tell, log_by, log_at, log_of, log_come}
 use Rattle.law_run.specs.TwoEnds.Logs.{Builds as EndBuilds}
 use Rattle.law_run.specs.TwoEnds.Staying.{AreInLife}
-use Rattle.law_run.proofs.TwoEnds.Going.{flight_in, flight_more, logged_more}
 use Rattle.law_sound.specs.BesideLaws.{behind_all}
 use Rattle.law_sound.specs.BesideLaws.{station_of, at_side, octets_of}
 use Rattle.law_sound.specs.BesideSteps.{OfTti}
@@ -50,6 +49,7 @@ use Rattle.law_sound.specs.BesideLaws.{ReadRecord}
 use Rattle.law_sound.proofs.StepActs.{call_read, rest_read, got_read, built_read}
 use Rattle.law_sound.proofs.StepNames.{processes_known, told_more}
 use Rattle.law_sound.proofs.StepRecords.{building_log}
+use Rattle.law_run.proofs.TwoEnds.Along.{flight_more, logged_more}
 
 -- ---- any records of a step
 

@@ -79,6 +79,22 @@ pub record Reads (before : Air) (kinds : List (Option Layout)) (kind : PdcpKind)
   pub none : (side : Side) → all_told side kinds told none_named ≡ none_named
   pub answered : AllByRecursion (IsAnswered l before) reads
 
+-- none of both sides' own answers
+pub silent_answered : (l : ℕ) (before : Air) (xs : List ReadRecord)
+    → AllByRecursion (λ (x : ReadRecord). IsOwn l Nb x.one) xs
+    → AllByRecursion (λ (x : ReadRecord). IsOwn l Ue x.one) xs → AllByRecursion (IsAnswered l before) xs
+silent_answered l before [] nb ue = tt
+silent_answered l before (x ∷ xs) nb ue = (by x.one x.more nb.0 ue.0, silent_answered l before xs nb.1 ue.1)
+  where
+    both : (own : Side) → own ≡ Nb → own ≡ Ue → ⊥
+    both own p q = let no : Nb ≡ Ue = sym p ∙ q in cc
+
+    by : (one : Record) (more : Bool) → IsOwn l Nb one → IsOwn l Ue one → RecordIsAnswered l before one more
+    by (records.Of own (events.Expired lcid Poll)) more p q =
+        λ same. absurd (both own (p (eq-eqb lcid l same)) (q (eq-eqb lcid l same)))
+    by (records.Of own e) more p q = tt
+    by one more p q = tt
+
 module _ (kinds : List (Option Layout)) (kind : PdcpKind) (l : ℕ) where
   pub both_truly : (j : Journal Histories) (xs ys : List ReadRecord) → AreTruly kinds l j xs
       → AreTruly kinds l (behind_all kinds xs j) ys → AreTruly kinds l j (xs ++ ys)
@@ -130,21 +146,6 @@ module _ (kinds : List (Option Layout)) (kind : PdcpKind) (l : ℕ) where
     pub all : Reads before kinds kind l j a m told
     pub same : all.read.lived ≡ r.lived
 
-  -- none of both sides' own answers
-  silent_answered : (before : Air) (xs : List ReadRecord) → AllByRecursion (λ (x : ReadRecord). IsOwn l Nb x.one) xs
-      → AllByRecursion (λ (x : ReadRecord). IsOwn l Ue x.one) xs → AllByRecursion (IsAnswered l before) xs
-  silent_answered before [] nb ue = tt
-  silent_answered before (x ∷ xs) nb ue = (by x.one x.more nb.0 ue.0, silent_answered before xs nb.1 ue.1)
-    where
-      both : (own : Side) → own ≡ Nb → own ≡ Ue → ⊥
-      both own p q = let no : Nb ≡ Ue = sym p ∙ q in cc
-
-      by : (one : Record) (more : Bool) → IsOwn l Nb one → IsOwn l Ue one → RecordIsAnswered l before one more
-      by (records.Of own (events.Expired lcid Poll)) more p q =
-          λ same. absurd (both own (p (eq-eqb lcid l same)) (q (eq-eqb lcid l same)))
-      by (records.Of own e) more p q = tt
-      by one more p q = tt
-
   -- those that its own side's end answers
   pub own_answered : (side : Side) (before : Air) (more : Bool) (told : List Record)
       → more ≡ has_something (flow l (station_of side before).end)
@@ -191,7 +192,7 @@ module _ (kinds : List (Option Layout)) (kind : PdcpKind) (l : ℕ) where
           all = λ side. let none' = zero' side in let as_before = same side in omega (arith, none', as_before);
         };
         none = λ side. silent_all side Nb kinds told sent none_named logs;
-        answered = silent_answered before xs nb ue;
+        answered = silent_answered l before xs nb ue;
       } in
       record { all = whole; same = refl }
 

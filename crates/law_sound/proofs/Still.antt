@@ -212,8 +212,11 @@ handover_gone c told h =
     (tells_gone Ue (c Ue) h.is_second.first h.is_second.is_first)
     (loop_gone h.is_second.second h.is_second.is_second))))
 
+pub gone_still : (told : List Record) → AreGone told → AreStill told
+gone_still told h = each_still IsGone IsStill record_still told h
+
 pub loop_still : (told : List Record) → LoopTells told → AreStill told
-loop_still told h = each_still IsGone IsStill record_still told (loop_gone told h)
+loop_still told h = gone_still told (loop_gone told h)
 
 pub handover_still : (c : Side → Channels) (told : List Record) → HandoverTells c told → AreStill told
-handover_still c told h = each_still IsGone IsStill record_still told (handover_gone c told h)
+handover_still c told h = gone_still told (handover_gone c told h)

@@ -40,6 +40,7 @@ ghost use Rattle.law_sound.specs.SduLaws.{TakenAreTold};
 ghost use Rattle.law_sound.specs.AirSending.{EndsSendByAir};
 ghost use Rattle.law_sound.specs.FailLaws.{LogsGoOn, ReceiversFailNone, FailsJoin};
 ghost use Rattle.law_sound.specs.RunLaws.{RunsTellFlows, RunsDeliver, RunsReportTruly};
+ghost use Rattle.law_sound.specs.RunLaws.{RunsTakeRightly, RunsFailRightly};
 ghost use Rattle.law_sound.specs.AlikeLaws.{AlikeLivesRunAlike, AlikeHistoriesTellAlike};
 ghost use Rattle.law_sound.specs.AlikeLaws.{AlikeJournalsGoOnAlike, JournalsAreAlike};
 ghost use Rattle.law_sound.specs.AlikeLaws.{StatusNeedsNoFlags};
@@ -380,6 +381,20 @@ pub fn others_tell_none()
 /// below VT(A) are ignored, as a `drop` record tells of each.
 pub fn runs_report_truly()
     ensures { RunsReportTruly }
+{}
+
+/// What RLC takes of acknowledged data, its status reports and what PDCP discards are right in the
+/// journal of any script that forges no block, as the checker asks it of any journal: each PDU and
+/// each report is the one that is takeable next (TS 36.323 5.1.1, 5.2.1.1, 5.3.1, 5.4).
+pub fn runs_take_rightly()
+    ensures { RunsTakeRightly }
+{}
+
+/// So are the `fail` records of its flows: a sender tells once of each number that is sent more
+/// often than maxRetxThreshold times, by the history of its flow, and then nothing until the next
+/// handover (TS 36.322 5.2.1).
+pub fn runs_fail_rightly()
+    ensures { RunsFailRightly }
 {}
 
 /// What is named of a side behind records is what their log tells of it: the PDUs that its end
