@@ -52,8 +52,7 @@ use Rattle.law_deliver.proofs.AmDelivery.Beginning.{first_way, begins_joined}
 use Rattle.law_deliver.proofs.AmDelivery.Delivering.{AllGoOn, all_go as ways_go, begins_account}
 use Rattle.law_deliver.proofs.AmDelivery.Joined.{Way, IsWay, JoinedPair, rlc as way_rlc, pdcp as way_pdcp}
 use Rattle.law_deliver.proofs.AmDelivery.Lasting.{Lasts, raised_by_pdu, confirmed_by_pdu}
-use Rattle.law_deliver.proofs.AmDelivery.Meeting.{goes_then, goes_not}
-use Rattle.law_deliver.proofs.AmDelivery.Promises.{GoesOn}
+use Rattle.law_deliver.proofs.AmDelivery.Promises.{GoesOn, goes_then, goes_not}
 use Rattle.law_deliver.proofs.AmChannel.Bearers.{IsSteady}
 use Rattle.law_deliver.proofs.AmChannel.Delivery.{first_of, pair, both_ends, both_match}
 use Rattle.law_deliver.proofs.AmChannel.Ends.{step_end, step_so, step_in_life, steps_more, calls_are, of_life, all_go}

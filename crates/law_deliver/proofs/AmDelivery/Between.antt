@@ -10,9 +10,8 @@ use Rattle.law_rlc.specs.AmPair.Sdus.{offered, handed_up}
 use Rattle.law_deliver.specs.AmFlow.Pair.{BearerEnd}
 use Rattle.law_deliver.proofs.AmDelivery.Joined.{Way, IsWay, Joins, Reports, rlc}
 use Rattle.law_deliver.proofs.AmDelivery.Lasting.{Lasts, confirmed_as_heard, lasts_so, lasts_then, none_given}
-use Rattle.law_deliver.proofs.AmDelivery.Promises.{GoesOn}
-use Rattle.law_deliver.proofs.AmDelivery.Meeting.{Extends, standing, Extended, extended, reports_stay, goes_then}
-use Rattle.law_deliver.proofs.AmDelivery.Meeting.{goes_not}
+use Rattle.law_deliver.proofs.AmDelivery.Promises.{GoesOn, goes_then, goes_not}
+use Rattle.law_deliver.proofs.AmDelivery.Meeting.{Extends, standing, Extended, extended, reports_stay}
 
 -- the way from an end and the way to it
 pub record Between (bits : ℕ) (out inn : Way) (e o : BearerEnd) (pool : List (List ℕ)) : Type 0 where

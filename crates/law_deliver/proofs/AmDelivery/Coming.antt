@@ -42,9 +42,9 @@ use Rattle.law_deliver.specs.AmDelivery.Lives.{calls_in, call_by, call_of, ups_b
 use Rattle.law_deliver.proofs.AmDelivery.Accounts.{Agrees, told_of}
 use Rattle.law_deliver.proofs.AmDelivery.Joined.{Way, IsWay, Joins, rlc, pdcp}
 use Rattle.law_deliver.proofs.AmDelivery.Promises.{GoesOn}
-use Rattle.law_deliver.proofs.AmDelivery.Ends.{JoinedEnds, EndsGoOn}
-use Rattle.law_deliver.proofs.AmDelivery.Lasting.{raised_by_pdu, raised_by, confirmed_by_pdu, lasts_so}
-use Rattle.law_deliver.proofs.AmDelivery.Meeting.{Standing, Extends, standing, meets_as, rests, goes_not}
+use Rattle.law_deliver.proofs.AmDelivery.Ends.{JoinedEnds, EndsGoOn, stays_joined}
+use Rattle.law_deliver.proofs.AmDelivery.Lasting.{raised_by_pdu, raised_by, confirmed_by_pdu}
+use Rattle.law_deliver.proofs.AmDelivery.Meeting.{Standing, Extends, standing, meets_as, rests}
 use Rattle.law_deliver.proofs.AmDelivery.Between.{Between, GoesBetween, none_goes, both_go, then_goes, with_bearer}
 use Rattle.law_deliver.proofs.AmDelivery.Between.{DeedGoes, deeds_go}
 use Rattle.law_deliver.proofs.AmDelivery.Arrivals.{data_arrives}
@@ -182,24 +182,12 @@ as_called {heard} bits out inn e o pdu x read h g =
       };
     }
 
-none_comes : (bits : ℕ) (out inn : Way) (e o : BearerEnd) → JoinedEnds bits out inn e o
-    → EndsGoOn bits out inn e o [] [] [] [] [] []
-none_comes bits out inn e o h = record {
-  out_after = out;
-  inn_after = inn;
-  joined = h;
-  out_goes = goes_not out;
-  inn_goes = goes_not inn;
-  out_lasts = lasts_so out;
-  inn_lasts = lasts_so inn;
-}
-
 -- a data PDU that the other end sent
 data_goes : (bits : ℕ) (out inn : Way) (e o : BearerEnd) (k : ℕ) (x : Option Copy) → slice_get o.copies k ≡ x
     → JoinedEnds bits out inn e o
     → EndsGoOn bits out inn (data_comes e x) o [] (ups_by e.bearer (call_by x)) [] (heard_by (call_by x))
     [] (raised_by e.bearer (call_by x))
-data_goes bits out inn e o k None at h = none_comes bits out inn e o h
+data_goes bits out inn e o k None at h = stays_joined bits out inn e o h
 data_goes bits out inn e o k (Some c) at h =
     let b = e.bearer in
     let r = data_read inn.sending inn.receiving o e (flow_of_way inn o e h.inn_is h.inn_joins) k c at in
@@ -245,7 +233,7 @@ status_goes : (bits : ℕ) (out inn : Way) (e o : BearerEnd) (k : ℕ) (x : Opti
     → JoinedEnds bits out inn e o
     → EndsGoOn bits out inn (status_comes e x) o [] (ups_by e.bearer (call_of x)) [] (heard_by (call_of x))
     [] (raised_by e.bearer (call_of x))
-status_goes bits out inn e o k None at h = none_comes bits out inn e o h
+status_goes bits out inn e o k None at h = stays_joined bits out inn e o h
 status_goes bits out inn e o k (Some s) at h =
     let b = e.bearer in
     let r = status_read out.sending out.receiving e o (flow_of_way out e o h.out_is h.out_joins) k s at in

@@ -1,6 +1,6 @@
 -- Through lives both directions go on as two ways, so what goes up at an end are the SDUs that the other took first.
-use Rattle.std.proofs.Common.{◌≡◌, ℕ, ◌-◌, List, [], ◌∷◌, ◌++◌, take, drop, append_assoc, append-nil, subst, refl, ap}
-use Rattle.std.proofs.Common.{sym, ◌∙◌}
+use Rattle.std.proofs.Common.{◌≡◌, ℕ, ◌-◌, List, [], ◌∷◌, ◌++◌, take, drop, append-nil, subst, refl, ap, sym}
+use Rattle.std.proofs.Common.{◌∙◌}
 use Rattle.std.proofs.lemmas.List.{take-append-drop}
 use Rattle.std.specs.List.{AllByRecursion}
 use Rattle.bearer.specs.Acknowledged.State.{State}
@@ -20,42 +20,17 @@ use Rattle.law_deliver.specs.AmDelivery.Delivery.{IsPdcpFlow, AreBothEnds, Beare
 use Rattle.law_deliver.specs.AmDelivery.Lives.{LifeStep, InLife, Restarts, lives_on, lives, IsLiving, AreLiving}
 use Rattle.law_deliver.specs.AmDelivery.Lives.{far_ups_in, near_ups_in, near_news_in, far_news_in, over}
 use Rattle.law_deliver.specs.AmDelivery.Arrival.{down_in, up_in, IsWhatCame, DeliversWhatCame}
-use Rattle.law_deliver.proofs.AmDelivery.Accounts.{told_of, Agrees, tells_then}
+use Rattle.law_deliver.proofs.AmDelivery.Accounts.{told_of, Agrees}
 use Rattle.law_deliver.proofs.AmDelivery.Arrived.{is_what_came}
 use Rattle.law_deliver.proofs.AmDelivery.Beginning.{first_way, begins_joined}
 use Rattle.law_deliver.proofs.AmDelivery.Joined.{Way, IsWay, Joins, JoinedPair, pdcp}
 use Rattle.law_deliver.proofs.AmDelivery.Lasting.{Lasts, lasts_so, lasts_then, IsOfLife, near_given_in}
 use Rattle.law_deliver.proofs.AmDelivery.Lasting.{far_given_in, near_raised_in, far_raised_in, near_confirmed_in}
 use Rattle.law_deliver.proofs.AmDelivery.Lasting.{far_confirmed_in}
-use Rattle.law_deliver.proofs.AmDelivery.Promises.{GoesOn, BothGoOn, StepsGoOn}
+use Rattle.law_deliver.proofs.AmDelivery.Promises.{GoesOn, BothGoOn, StepsGoOn, goes_then, goes_not}
 use Rattle.law_deliver.proofs.AmDelivery.Restarting.{restarts_go_on}
 
 -- ---- any steps
-
-stays : (w : Way) → GoesOn w w [] [] []
-stays w = record {
-  bits = refl;
-  protection = refl;
-  first = refl;
-  sdus_are = sym (append-nil (pdcp w).sdus);
-  ups_are = sym (append-nil (pdcp w).up);
-  tells = λ a k. k;
-}
-
-list_goes_on : (xs ys zs : List (List ℕ)) (a b : List (List ℕ)) → ys ≡ xs ++ a → zs ≡ ys ++ b → zs ≡ xs ++ (a ++ b)
-list_goes_on xs ys zs a b p q = q ∙ ap (λ (l : List (List ℕ)). l ++ b) p ∙ append_assoc xs a b
-
-goes_further : {xs ys : List AccountEntry} (u v w : Way) (news more ups higher : List (List ℕ)) → GoesOn u v news ups xs
-    → GoesOn v w more higher ys
-    → GoesOn u w (news ++ more) (ups ++ higher) (xs ++ ys)
-goes_further {xs} {ys} u v w news more ups higher h k = record {
-  bits = k.bits ∙ h.bits;
-  protection = k.protection ∙ h.protection;
-  first = k.first ∙ h.first;
-  sdus_are = list_goes_on (pdcp u).sdus (pdcp v).sdus (pdcp w).sdus news more h.sdus_are k.sdus_are;
-  ups_are = list_goes_on (pdcp u).up (pdcp v).up (pdcp w).up ups higher h.ups_are k.ups_are;
-  tells = tells_then xs ys (pdcp u) (pdcp v) (pdcp w) (told_of u) (told_of v) (told_of w) h.tells k.tells;
-}
 
 pub goes_once : StepsGoOn → (bits : ℕ) (down up : Way) (p : Pair) (x : LifeStep) → IsLiving p x
     → JoinedPair bits down up p → BothGoOn bits down up p x
@@ -79,8 +54,8 @@ all_go steps [] bits down up p given h = record {
   down_after = down;
   up_after = up;
   joined = h;
-  down_goes = stays down;
-  up_goes = stays up;
+  down_goes = goes_not down;
+  up_goes = goes_not up;
   down_lasts = λ in'. lasts_so down;
   up_lasts = λ in'. lasts_so up;
 }
@@ -92,10 +67,10 @@ all_go steps (x ∷ xs) bits down up p given h =
       down_after = rest.down_after;
       up_after = rest.up_after;
       joined = rest.joined;
-      down_goes = goes_further down one.down_after rest.down_after
+      down_goes = goes_then down one.down_after rest.down_after
           (near_news_in p x) (over near_news_in xs q) (far_ups_in p x) (over far_ups_in xs q) one.down_goes
           rest.down_goes;
-      up_goes = goes_further up one.up_after rest.up_after
+      up_goes = goes_then up one.up_after rest.up_after
           (far_news_in p x) (over far_news_in xs q) (near_ups_in p x) (over near_ups_in xs q) one.up_goes rest.up_goes;
       down_lasts = λ in'.
           lasts_then down one.down_after rest.down_after (near_given_in p x) (over near_given_in xs q)

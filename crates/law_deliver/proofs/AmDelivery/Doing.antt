@@ -11,7 +11,8 @@ use Rattle.law_deliver.proofs.AmDelivery.Joined.{Way, Joins, IsReportOf, Reports
 use Rattle.law_deliver.proofs.AmDelivery.Ways.{with_more}
 use Rattle.law_deliver.proofs.AmDelivery.Ends.{JoinedEnds, EndsGoOn}
 use Rattle.law_deliver.proofs.AmDelivery.Lasting.{lasts_so, lasts_then, none_given}
-use Rattle.law_deliver.proofs.AmDelivery.Moving.{Moves, HasMoved, moves_on, moves_last, all_offers, stays_so, goes_then}
+use Rattle.law_deliver.proofs.AmDelivery.Moving.{Moves, HasMoved, moves_on, moves_last, all_offers}
+use Rattle.law_deliver.proofs.AmDelivery.Promises.{goes_then, goes_not}
 
 -- ---- an end of which one side is as it was
 
@@ -108,7 +109,7 @@ out_goes_on bits out inn e o d xs ss news said h moves alike between report told
         other_idle = h.other_idle;
       };
       out_goes = m.goes;
-      inn_goes = stays_so inn;
+      inn_goes = goes_not inn;
       out_lasts = moves_last out xs ss d o news [] said h.out_is moves;
       inn_lasts = lasts_so inn;
     }
@@ -140,7 +141,7 @@ inn_goes_on bits out inn e o d ss h moves alike between =
         idle = between.idle;
         other_idle = h.other_idle;
       };
-      out_goes = stays_so out;
+      out_goes = goes_not out;
       inn_goes = m.goes;
       out_lasts = lasts_so out;
       inn_lasts = record {
@@ -153,18 +154,6 @@ inn_goes_on bits out inn e o d ss h moves alike between =
     }
 
 -- ---- one behind the other
-
-pub stays_joined : (bits : ℕ) (out inn : Way) (e o : BearerEnd) → JoinedEnds bits out inn e o
-    → EndsGoOn bits out inn e o [] [] [] [] [] []
-stays_joined bits out inn e o h = record {
-  out_after = out;
-  inn_after = inn;
-  joined = h;
-  out_goes = stays_so out;
-  inn_goes = stays_so inn;
-  out_lasts = lasts_so out;
-  inn_lasts = lasts_so inn;
-}
 
 -- where nothing is heard
 pub ends_then : {a b : List AccountEntry} (bits : ℕ) (out inn : Way) (e o d p : BearerEnd)

@@ -5,8 +5,8 @@ use Rattle.law_words.specs.Arrivals.{AccountEntry}
 use Rattle.law_bearer.specs.AmBearer.Calls.{IsOfData, IsIdle}
 use Rattle.law_deliver.specs.AmFlow.Pair.{BearerEnd, Pair}
 use Rattle.law_deliver.proofs.AmDelivery.Joined.{Way, IsWay, Joins, Reports, JoinedPair, rlc}
-use Rattle.law_deliver.proofs.AmDelivery.Lasting.{Lasts, confirmed_as_heard}
-use Rattle.law_deliver.proofs.AmDelivery.Promises.{GoesOn}
+use Rattle.law_deliver.proofs.AmDelivery.Lasting.{Lasts, confirmed_as_heard, lasts_so}
+use Rattle.law_deliver.proofs.AmDelivery.Promises.{GoesOn, goes_not}
 
 -- an end and the other, with the way from it and the way to it
 pub record JoinedEnds (bits : ℕ) (out inn : Way) (e o : BearerEnd) : Type 0 where
@@ -35,6 +35,18 @@ pub record EndsGoOn (bits : ℕ) (out inn : Way) (e o : BearerEnd) (news ups : L
   pub inn_goes : GoesOn inn inn_after [] ups heard
   pub out_lasts : Lasts out out_after given [] (confirmed_as_heard heard (sender (rlc out)).state)
   pub inn_lasts : Lasts inn inn_after [] raised []
+
+pub stays_joined : (bits : ℕ) (out inn : Way) (e o : BearerEnd) → JoinedEnds bits out inn e o
+    → EndsGoOn bits out inn e o [] [] [] [] [] []
+stays_joined bits out inn e o h = record {
+  out_after = out;
+  inn_after = inn;
+  joined = h;
+  out_goes = goes_not out;
+  inn_goes = goes_not inn;
+  out_lasts = lasts_so out;
+  inn_lasts = lasts_so inn;
+}
 
 -- ---- a pair, from each end
 

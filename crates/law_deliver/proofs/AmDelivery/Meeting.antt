@@ -1,5 +1,5 @@
 -- What the flows of a way stand at, and how a way goes on where PDCP takes no new SDU and gives nothing to RLC.
-use Rattle.std.proofs.Common.{◌≡◌, ℕ, Bool, List, [], ◌++◌, map, length, append-nil, append_assoc, refl, ap, sym, subst}
+use Rattle.std.proofs.Common.{◌≡◌, ℕ, Bool, List, [], ◌++◌, map, length, append-nil, refl, ap, sym, subst}
 use Rattle.std.proofs.Common.{◌∙◌}
 use Rattle.std.specs.List.{AllByRecursion}
 use Rattle.pdcp_tx.specs.declared.sender.Next.{Next}
@@ -20,7 +20,7 @@ use Rattle.law_deliver.specs.AmFlow.Pair.{BearerEnd}
 use Rattle.law_deliver.proofs.AmFlow.Standing.{Stands}
 use Rattle.law_deliver.proofs.AmFlow.Flows.{stands_as, is_flow}
 use Rattle.law_deliver.proofs.AmDelivery.Joined.{Way, IsWay, rlc, pdcp, Joins, IsReportOf, Reports}
-use Rattle.law_deliver.proofs.AmDelivery.Accounts.{told_of, told_more, TellsOn, tells_then, agrees_at}
+use Rattle.law_deliver.proofs.AmDelivery.Accounts.{told_of, told_more, TellsOn, agrees_at}
 use Rattle.law_deliver.proofs.AmDelivery.Ways.{with_more, goes_on}
 use Rattle.law_deliver.proofs.AmDelivery.Promises.{GoesOn}
 
@@ -168,28 +168,4 @@ reports_stay w back v under s b h = record {
   owed = λ r e. s.report ∙ h.owed r (sym b.owed ∙ e);
   sent = subst (λ (l : List Next). AllByRecursion (IsReportOf (pdcp v).report) l) (sym b.stream)
       (subst (λ o. AllByRecursion (IsReportOf o) (pdcp back).stream) (sym s.report) h.sent);
-}
-
--- ---- one after the other
-
-pub goes_then : {xs ys : List AccountEntry} (u v w : Way) (news more ups last : List (List ℕ)) → GoesOn u v news ups xs
-    → GoesOn v w more last ys
-    → GoesOn u w (news ++ more) (ups ++ last) (xs ++ ys)
-goes_then {xs} {ys} u v w news more ups last h k = record {
-  bits = k.bits ∙ h.bits;
-  protection = k.protection ∙ h.protection;
-  first = k.first ∙ h.first;
-  sdus_are = k.sdus_are ∙ ap (λ l. l ++ more) h.sdus_are ∙ append_assoc (pdcp u).sdus news more;
-  ups_are = k.ups_are ∙ ap (λ l. l ++ last) h.ups_are ∙ append_assoc (pdcp u).up ups last;
-  tells = tells_then xs ys (pdcp u) (pdcp v) (pdcp w) (told_of u) (told_of v) (told_of w) h.tells k.tells;
-}
-
-pub goes_not : (w : Way) → GoesOn w w [] [] []
-goes_not w = record {
-  bits = refl;
-  protection = refl;
-  first = refl;
-  sdus_are = sym (append-nil (pdcp w).sdus);
-  ups_are = sym (append-nil (pdcp w).up);
-  tells = λ b k. k;
 }

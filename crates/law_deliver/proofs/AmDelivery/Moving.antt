@@ -18,7 +18,7 @@ use Rattle.law_words.specs.Arrivals.{AccountEntry, account}
 use Rattle.law_deliver.specs.AmFlow.Flows.{IsFlow}
 use Rattle.law_deliver.specs.AmFlow.Pair.{BearerEnd}
 use Rattle.promises.specs.Given.{entries_passed}
-use Rattle.law_deliver.proofs.AmDelivery.Accounts.{told_of, told_more, TellsOn, tells_then, tells_passing, agrees_at}
+use Rattle.law_deliver.proofs.AmDelivery.Accounts.{told_of, told_more, TellsOn, tells_passing, agrees_at}
 use Rattle.law_deliver.proofs.AmDelivery.Joined.{Way, IsWay, Joins, rlc, pdcp}
 use Rattle.law_deliver.proofs.AmDelivery.Lasting.{Lasts}
 use Rattle.law_deliver.proofs.AmDelivery.Ways.{with_more, IsMore, goes_on}
@@ -112,30 +112,6 @@ moves_last w xs ss from to news ups told h m =
       handed_is = ap handed_up more.rlc_is ∙ m.handed_is ∙ sym (append-nil (handed_up (rlc w)));
       confirmed_is = ap confirmed more.rlc_is ∙ m.confirmed_is ∙ sym (append-nil (confirmed (rlc w)));
     }
-
--- ---- one behind the other
-
-pub stays_so : (w : Way) → GoesOn w w [] [] []
-stays_so w = record {
-  bits = refl;
-  protection = refl;
-  first = refl;
-  sdus_are = sym (append-nil (pdcp w).sdus);
-  ups_are = sym (append-nil (pdcp w).up);
-  tells = λ a k. k;
-}
-
-pub goes_then : {xs ys : List AccountEntry} (w v u : Way) (news more ups later : List (List ℕ)) → GoesOn w v news ups xs
-    → GoesOn v u more later ys
-    → GoesOn w u (news ++ more) (ups ++ later) (xs ++ ys)
-goes_then {xs} {ys} w v u news more ups later h k = record {
-  bits = k.bits ∙ h.bits;
-  protection = k.protection ∙ h.protection;
-  first = k.first ∙ h.first;
-  sdus_are = k.sdus_are ∙ ap (λ l. l ++ more) h.sdus_are ∙ append_assoc (pdcp w).sdus news more;
-  ups_are = k.ups_are ∙ ap (λ l. l ++ later) h.ups_are ∙ append_assoc (pdcp w).up ups later;
-  tells = tells_then xs ys (pdcp w) (pdcp v) (pdcp u) (told_of w) (told_of v) (told_of u) h.tells k.tells;
-}
 
 -- ---- a step of RLC
 

@@ -1,5 +1,5 @@
 -- What the steps of a life and its end have to show, so that a pair goes on as two ways.
-use Rattle.std.specs.Prelude.{◌≡◌, ℕ, List, ◌++◌}
+use Rattle.std.proofs.Common.{◌≡◌, ℕ, List, [], ◌++◌, append-nil, append_assoc, refl, ap, sym, ◌∙◌}
 use Rattle.eps_sec.specs.declared.Keys.{Keys}
 use Rattle.law_deliver.specs.AmFlow.Pair.{Pair, Step, IsGiven}
 use Rattle.law_deliver.specs.AmDelivery.Lives.{LifeStep, InLife, Restarts, lives_on, MayHappen, far_ups_in, near_ups_in}
@@ -7,7 +7,7 @@ use Rattle.law_deliver.specs.AmDelivery.Lives.{near_news_in, far_news_in}
 use Rattle.law_words.specs.Arrivals.{AccountEntry}
 use Rattle.law_deliver.specs.AmDelivery.Arrival.{down_in, up_in}
 use Rattle.law_deliver.proofs.AmDelivery.Joined.{Way, JoinedPair, pdcp}
-use Rattle.law_deliver.proofs.AmDelivery.Accounts.{told_of, TellsOn}
+use Rattle.law_deliver.proofs.AmDelivery.Accounts.{told_of, TellsOn, tells_then}
 use Rattle.law_deliver.proofs.AmDelivery.Lasting.{Lasts, IsOfLife, near_given_in, far_given_in, near_raised_in}
 use Rattle.law_deliver.proofs.AmDelivery.Lasting.{far_raised_in, near_confirmed_in, far_confirmed_in}
 
@@ -19,6 +19,28 @@ pub record GoesOn (w v : Way) (news ups : List (List ℕ)) (told : List AccountE
   pub sdus_are : (pdcp v).sdus ≡ (pdcp w).sdus ++ news
   pub ups_are : (pdcp v).up ≡ (pdcp w).up ++ ups
   pub tells : TellsOn told (pdcp w) (told_of w) (pdcp v) (told_of v)
+
+pub goes_not : (w : Way) → GoesOn w w [] [] []
+goes_not w = record {
+  bits = refl;
+  protection = refl;
+  first = refl;
+  sdus_are = sym (append-nil (pdcp w).sdus);
+  ups_are = sym (append-nil (pdcp w).up);
+  tells = λ a k. k;
+}
+
+pub goes_then : {xs ys : List AccountEntry} (u v w : Way) (news more ups higher : List (List ℕ)) → GoesOn u v news ups xs
+    → GoesOn v w more higher ys
+    → GoesOn u w (news ++ more) (ups ++ higher) (xs ++ ys)
+goes_then {xs} {ys} u v w news more ups higher h k = record {
+  bits = k.bits ∙ h.bits;
+  protection = k.protection ∙ h.protection;
+  first = k.first ∙ h.first;
+  sdus_are = k.sdus_are ∙ ap (λ l. l ++ more) h.sdus_are ∙ append_assoc (pdcp u).sdus news more;
+  ups_are = k.ups_are ∙ ap (λ l. l ++ higher) h.ups_are ∙ append_assoc (pdcp u).up ups higher;
+  tells = tells_then xs ys (pdcp u) (pdcp v) (pdcp w) (told_of u) (told_of v) (told_of w) h.tells k.tells;
+}
 
 pub record BothGoOn (bits : ℕ) (down up : Way) (p : Pair) (x : LifeStep) : Type 0 where
   pub down_after : Way

@@ -66,9 +66,9 @@ use Rattle.promises.specs.Given.{entries_of, entries_given, entries_passed, entr
 use Rattle.law_deliver.proofs.AmDelivery.Gives.{given_as, IsRight, same_given, takes_are_told, offers_right}
 use Rattle.law_deliver.proofs.AmDelivery.Accounts.{sound_pdcp, told_of, given_of, tells_given, Agrees, account_then}
 use Rattle.law_deliver.proofs.AmDelivery.Joined.{Way, IsWay, Joins, IsReportOf, rlc, pdcp}
-use Rattle.law_deliver.proofs.AmDelivery.Ends.{JoinedEnds, EndsGoOn}
+use Rattle.law_deliver.proofs.AmDelivery.Ends.{JoinedEnds, EndsGoOn, stays_joined}
 use Rattle.law_deliver.proofs.AmDelivery.Moving.{Moves, rests, rlc_moves}
-use Rattle.law_deliver.proofs.AmDelivery.Doing.{Tells, tells, out_goes_on, inn_goes_on, stays_joined, ends_then}
+use Rattle.law_deliver.proofs.AmDelivery.Doing.{Tells, tells, out_goes_on, inn_goes_on, ends_then}
 use Rattle.law_deliver.proofs.AmDelivery.Timers.{with_bearer, stays_between, sent_by, sends_flow, sends_on}
 
 -- ---- PDCP's sender gives a PDU

@@ -31,9 +31,9 @@ use Rattle.law_deliver.proofs.AmFlow.Standing.{or_none}
 use Rattle.promises.specs.Given.{entries_passed}
 use Rattle.law_deliver.proofs.AmDelivery.Accounts.{told_of, tells_passing}
 use Rattle.law_deliver.proofs.AmDelivery.Joined.{Way, Joins, IsReportOf, rlc, pdcp}
-use Rattle.law_deliver.proofs.AmDelivery.Ends.{JoinedEnds, EndsGoOn}
+use Rattle.law_deliver.proofs.AmDelivery.Ends.{JoinedEnds, EndsGoOn, stays_joined}
 use Rattle.law_deliver.proofs.AmDelivery.Moving.{Moves, rlc_moves}
-use Rattle.law_deliver.proofs.AmDelivery.Doing.{Tells, tells, IsBetween, out_goes_on, inn_goes_on, stays_joined}
+use Rattle.law_deliver.proofs.AmDelivery.Doing.{Tells, tells, IsBetween, out_goes_on, inn_goes_on}
 use Rattle.law_deliver.proofs.AmDelivery.Doing.{ends_then}
 
 -- ---- an end with another bearer
