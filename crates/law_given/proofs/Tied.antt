@@ -51,15 +51,15 @@ use Rattle.law_deliver.proofs.AmDelivery.Accounts.{Agrees, told_of}
 use Rattle.law_deliver.proofs.AmDelivery.Beginning.{first_way, begins_joined}
 use Rattle.law_deliver.proofs.AmDelivery.Delivering.{AllGoOn, all_go as ways_go, begins_account}
 use Rattle.law_deliver.proofs.AmDelivery.Joined.{Way, IsWay, JoinedPair, rlc as way_rlc, pdcp as way_pdcp}
-use Rattle.law_deliver.proofs.AmDelivery.Lasting.{Lasts, raised_by_pdu, confirmed_by_pdu}
+use Rattle.law_deliver.proofs.AmDelivery.Lasting.{Lasts, given_in, raised_by_pdu, raised_in}
+use Rattle.law_deliver.proofs.AmDelivery.Lasting.{confirmed_by_pdu, confirmed_in, given_by, raised_by, confirmed_by}
 use Rattle.law_deliver.proofs.AmDelivery.Promises.{GoesOn, goes_then, goes_not}
 use Rattle.law_deliver.proofs.AmChannel.Bearers.{IsSteady}
 use Rattle.law_deliver.proofs.AmChannel.Delivery.{first_of, pair, both_ends, both_match}
 use Rattle.law_deliver.proofs.AmChannel.Ends.{step_end, step_so, step_in_life, steps_more, calls_are, of_life, all_go}
 use Rattle.law_deliver.proofs.AmChannel.Ends.{all_ups, goes_by_calls}
-use Rattle.law_deliver.proofs.AmChannel.Pairs.{own, all_does, ups_in_at, news_in_at, given_in_at, raised_in_at}
-use Rattle.law_deliver.proofs.AmChannel.Pairs.{confirmed_in_at, given_on, raised_on, confirmed_on, ends_none}
-use Rattle.law_deliver.proofs.AmChannel.Pairs.{all_given, all_raised, all_confirmed, lives_go}
+use Rattle.law_deliver.proofs.AmChannel.Pairs.{own, all_does, ups_in_at, news_in_at, in_at, acked_on, ends_none}
+use Rattle.law_deliver.proofs.AmChannel.Pairs.{all_acked, lives_go}
 use Rattle.law_deliver.proofs.AmChannel.Walk.{BothMatch, Walks, step_walks, matches_on}
 use Rattle.law_given.specs.Beside.{GoesOnAs}
 use Rattle.law_given.specs.Joined.{Direction, AreJoined, rlc}
@@ -355,7 +355,7 @@ abbrev pub news_over : Flow → List BearerCall → List ℕ
 news_over f [] = []
 news_over f (c ∷ cs) = news_by f c ++ news_over (called f c) cs
 
-given_same : (l : ℕ) (f : Flow) (c : BearerCall) → given_on l f c ≡ offered_by f c
+given_same : (l : ℕ) (f : Flow) (c : BearerCall) → acked_on given_in f c ≡ offered_by f c
 given_same l (Tm b) c = refl
 given_same l (Um b) c = refl
 given_same l (Am b) (Submit sdu) = refl
@@ -365,10 +365,10 @@ given_same l (Am b) (Expire clock) = refl
 given_same l (Am b) Tick = refl
 given_same l (Am b) (SetDiscard ttis) = refl
 
-given_over : (l : ℕ) (cs : List BearerCall) (f : Flow) → of_calls given_on l f cs ≡ offered_over f cs
+given_over : (l : ℕ) (cs : List BearerCall) (f : Flow) → of_calls (λ n. acked_on given_in) l f cs ≡ offered_over f cs
 given_over l [] f = refl
 given_over l (c ∷ cs) f =
-    ap (λ (xs : List (List ℕ)). xs ++ of_calls given_on l (called f c) cs) (given_same l f c)
+    ap (λ (xs : List (List ℕ)). xs ++ of_calls (λ n. acked_on given_in) l (called f c) cs) (given_same l f c)
     ∙ ap (λ (xs : List (List ℕ)). offered_by f c ++ xs) (given_over l cs (called f c))
 
 read_same : (x : Result AcknowledgedPdu RlcRefusal) (r : Receiver) → raised_by_pdu x r ≡ ready_in x r
@@ -376,7 +376,7 @@ read_same (Err refused) r = refl
 read_same (Ok (Payload pdu)) r = refl
 read_same (Ok (Status pdu)) r = refl
 
-raised_same : (l : ℕ) (f : Flow) (c : BearerCall) → raised_on l f c ≡ ready_by f c
+raised_same : (l : ℕ) (f : Flow) (c : BearerCall) → acked_on raised_in f c ≡ ready_by f c
 raised_same l (Tm b) c = refl
 raised_same l (Um b) c = refl
 raised_same l (Am b) (Submit sdu) = refl
@@ -386,10 +386,10 @@ raised_same l (Am b) (Expire clock) = refl
 raised_same l (Am b) Tick = refl
 raised_same l (Am b) (SetDiscard ttis) = refl
 
-raised_over : (l : ℕ) (cs : List BearerCall) (f : Flow) → of_calls raised_on l f cs ≡ ready_over f cs
+raised_over : (l : ℕ) (cs : List BearerCall) (f : Flow) → of_calls (λ n. acked_on raised_in) l f cs ≡ ready_over f cs
 raised_over l [] f = refl
 raised_over l (c ∷ cs) f =
-    ap (λ (xs : List (List ℕ)). xs ++ of_calls raised_on l (called f c) cs) (raised_same l f c)
+    ap (λ (xs : List (List ℕ)). xs ++ of_calls (λ n. acked_on raised_in) l (called f c) cs) (raised_same l f c)
     ∙ ap (λ (xs : List (List ℕ)). ready_by f c ++ xs) (raised_over l cs (called f c))
 
 told_same : (x : Result AcknowledgedPdu RlcRefusal) (b : State) → confirmed_by_pdu x b.tx ≡ news_in x b
@@ -397,7 +397,7 @@ told_same (Err refused) b = refl
 told_same (Ok (Payload pdu)) b = refl
 told_same (Ok (Status pdu)) b = refl
 
-confirmed_same : (l : ℕ) (f : Flow) (c : BearerCall) → confirmed_on l f c ≡ news_by f c
+confirmed_same : (l : ℕ) (f : Flow) (c : BearerCall) → acked_on confirmed_in f c ≡ news_by f c
 confirmed_same l (Tm b) c = refl
 confirmed_same l (Um b) c = refl
 confirmed_same l (Am b) (Submit sdu) = refl
@@ -407,10 +407,11 @@ confirmed_same l (Am b) (Expire clock) = refl
 confirmed_same l (Am b) Tick = refl
 confirmed_same l (Am b) (SetDiscard ttis) = refl
 
-confirmed_over : (l : ℕ) (cs : List BearerCall) (f : Flow) → of_calls confirmed_on l f cs ≡ news_over f cs
+confirmed_over : (l : ℕ) (cs : List BearerCall) (f : Flow)
+    → of_calls (λ n. acked_on confirmed_in) l f cs ≡ news_over f cs
 confirmed_over l [] f = refl
 confirmed_over l (c ∷ cs) f =
-    ap (λ (xs : List ℕ). xs ++ of_calls confirmed_on l (called f c) cs) (confirmed_same l f c)
+    ap (λ (xs : List ℕ). xs ++ of_calls (λ n. acked_on confirmed_in) l (called f c) cs) (confirmed_same l f c)
     ∙ ap (λ (xs : List ℕ). news_by f c ++ xs) (confirmed_over l cs (called f c))
 
 -- a direction goes on
@@ -452,35 +453,37 @@ module _ (l : ℕ) (c : BearerConfig) (nb ue : End) (steps : List AirStep) (s : 
       does_is l c nb ue steps (InLife s) g t side
       ∙ calls_are l (calls_at side here (InLife s)) (end_at side here) (step_in_life l side here s g)
 
-  given_so : (side : Side) → over (given_in_at side) one.steps t.last
+  given_so : (side : Side) → over (in_at side given_by) one.steps t.last
       ≡ offered_over (flow l (end_at side here)) (calls_of_step l side here (InLife s))
   given_so side =
       let cs = calls_of_step l side here (InLife s) in
       (lives_go c.pdcp_bits l side one.steps t.last (steady l c nb ue steps (InLife s) g t side)).given_are
-      ∙ ap (all_given l (Am (own side t.last).bearer)) (life_does side)
-      ∙ ap (λ (f : Flow). all_given l f (map (λ y. CallsIt y) cs)) (sym (own_is l c nb ue steps (InLife s) g t side))
-      ∙ of_life given_on ends_none l cs (flow l (end_at side here))
+      ∙ ap (all_acked given_in l (Am (own side t.last).bearer)) (life_does side)
+      ∙ ap (λ (f : Flow). all_acked given_in l f (map (λ y. CallsIt y) cs))
+      (sym (own_is l c nb ue steps (InLife s) g t side))
+      ∙ of_life (λ n. acked_on given_in) ends_none l cs (flow l (end_at side here))
       ∙ given_over l cs (flow l (end_at side here))
 
-  raised_so : (side : Side) → over (raised_in_at side) one.steps t.last
+  raised_so : (side : Side) → over (in_at side raised_by) one.steps t.last
       ≡ ready_over (flow l (end_at side here)) (calls_of_step l side here (InLife s))
   raised_so side =
       let cs = calls_of_step l side here (InLife s) in
       (lives_go c.pdcp_bits l side one.steps t.last (steady l c nb ue steps (InLife s) g t side)).raised_are
-      ∙ ap (all_raised l (Am (own side t.last).bearer)) (life_does side)
-      ∙ ap (λ (f : Flow). all_raised l f (map (λ y. CallsIt y) cs)) (sym (own_is l c nb ue steps (InLife s) g t side))
-      ∙ of_life raised_on ends_none l cs (flow l (end_at side here))
+      ∙ ap (all_acked raised_in l (Am (own side t.last).bearer)) (life_does side)
+      ∙ ap (λ (f : Flow). all_acked raised_in l f (map (λ y. CallsIt y) cs))
+      (sym (own_is l c nb ue steps (InLife s) g t side))
+      ∙ of_life (λ n. acked_on raised_in) ends_none l cs (flow l (end_at side here))
       ∙ raised_over l cs (flow l (end_at side here))
 
-  confirmed_so : (side : Side) → over (confirmed_in_at side) one.steps t.last
+  confirmed_so : (side : Side) → over (in_at side confirmed_by) one.steps t.last
       ≡ news_over (flow l (end_at side here)) (calls_of_step l side here (InLife s))
   confirmed_so side =
       let cs = calls_of_step l side here (InLife s) in
       (lives_go c.pdcp_bits l side one.steps t.last (steady l c nb ue steps (InLife s) g t side)).confirmed_are
-      ∙ ap (all_confirmed l (Am (own side t.last).bearer)) (life_does side)
-      ∙ ap (λ (f : Flow). all_confirmed l f (map (λ y. CallsIt y) cs))
+      ∙ ap (all_acked confirmed_in l (Am (own side t.last).bearer)) (life_does side)
+      ∙ ap (λ (f : Flow). all_acked confirmed_in l f (map (λ y. CallsIt y) cs))
       (sym (own_is l c nb ue steps (InLife s) g t side))
-      ∙ of_life confirmed_on ends_none l cs (flow l (end_at side here))
+      ∙ of_life (λ n. acked_on confirmed_in) ends_none l cs (flow l (end_at side here))
       ∙ confirmed_over l cs (flow l (end_at side here))
 
   there_on : GoesFrom l Nb Ue here (InLife s) t.joined.there (next l c nb ue steps (InLife s) g t).joined.there

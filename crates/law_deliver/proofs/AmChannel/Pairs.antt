@@ -16,9 +16,8 @@ use Rattle.law_deliver.specs.AmDelivery.Lives.{LifeStep, InLife, Restarts, lives
 use Rattle.law_deliver.specs.AmDelivery.Lives.{ups_by, news_by, near_ups_in, far_ups_in, near_news_in, far_news_in}
 use Rattle.law_deliver.specs.AmDelivery.Lives.{over}
 use Rattle.law_deliver.specs.AmDelivery.Ends.{near_steps_in, far_steps_in}
-use Rattle.law_deliver.proofs.AmDelivery.Lasting.{given_in, raised_in, given_by, raised_by, near_given_in}
-use Rattle.law_deliver.proofs.AmDelivery.Lasting.{far_given_in, near_raised_in, far_raised_in, confirmed_in}
-use Rattle.law_deliver.proofs.AmDelivery.Lasting.{confirmed_by, near_confirmed_in, far_confirmed_in}
+use Rattle.law_deliver.proofs.AmDelivery.Lasting.{given_in, raised_in, confirmed_in, given_by, raised_by}
+use Rattle.law_deliver.proofs.AmDelivery.Lasting.{confirmed_by, near_in, far_in}
 use Rattle.law_deliver.proofs.AmDelivery.Reached.{Turns, near_turns, far_turns}
 use Rattle.law_deliver.proofs.AmChannel.Bearers.{IsSteady, called_steady, restarts_steady, call_ups, end_ups}
 use Rattle.law_deliver.proofs.AmChannel.Ends.{of_steps, ends_up, all_ups}
@@ -37,45 +36,22 @@ abbrev pub news_in_at : Side → Pair → LifeStep → List (List ℕ)
 news_in_at Nb = near_news_in
 news_in_at Ue = far_news_in
 
--- what its RLC is given, hands up and newly confirms
-abbrev pub given_in_at : Side → Pair → LifeStep → List (List ℕ)
-given_in_at Nb = near_given_in
-given_in_at Ue = far_given_in
+-- what its RLC is given, hands up or newly confirms
+abbrev pub in_at : {X : Type 0} → Side → (State → List Call → List X) → Pair → LifeStep → List X
+in_at Nb = near_in
+in_at Ue = far_in
 
-abbrev pub raised_in_at : Side → Pair → LifeStep → List (List ℕ)
-raised_in_at Nb = near_raised_in
-raised_in_at Ue = far_raised_in
-
-abbrev pub confirmed_in_at : Side → Pair → LifeStep → List ℕ
-confirmed_in_at Nb = near_confirmed_in
-confirmed_in_at Ue = far_confirmed_in
-
-abbrev pub given_on : ℕ → Flow → Call → List (List ℕ)
-given_on l (Tm b) c = []
-given_on l (Um b) c = []
-given_on l (Am b) c = given_in b c
-
-abbrev pub raised_on : ℕ → Flow → Call → List (List ℕ)
-raised_on l (Tm b) c = []
-raised_on l (Um b) c = []
-raised_on l (Am b) c = raised_in b c
-
-abbrev pub confirmed_on : ℕ → Flow → Call → List ℕ
-confirmed_on l (Tm b) c = []
-confirmed_on l (Um b) c = []
-confirmed_on l (Am b) c = confirmed_in b c
+-- and that of a bearer of acknowledged data
+abbrev pub acked_on : {X : Type 0} → (State → Call → List X) → Flow → Call → List X
+acked_on by (Tm b) c = []
+acked_on by (Um b) c = []
+acked_on by (Am b) c = by b c
 
 abbrev pub ends_none : {X : Type 0} → ℕ → Flow → List X
 ends_none l f = []
 
-abbrev pub all_given : ℕ → Flow → List BearerStep → List (List ℕ)
-all_given = of_steps given_on ends_none
-
-abbrev pub all_raised : ℕ → Flow → List BearerStep → List (List ℕ)
-all_raised = of_steps raised_on ends_none
-
-abbrev pub all_confirmed : ℕ → Flow → List BearerStep → List ℕ
-all_confirmed = of_steps confirmed_on ends_none
+abbrev pub all_acked : {X : Type 0} → (State → Call → List X) → ℕ → Flow → List BearerStep → List X
+all_acked by = of_steps (λ l. acked_on by) ends_none
 
 -- the steps of its bearer
 abbrev pub does_at : Side → Pair → LifeStep → List BearerStep
@@ -91,10 +67,12 @@ record Few (bits l : ℕ) (cs : List Call) (b d : State) (xs : List BearerStep) 
   steady : IsSteady bits l d
   ups_are : all_ups l (Am b) (map (λ c. CallsIt c) cs ++ xs) ≡ ups_by b cs ++ all_ups l (Am d) xs
   news_are : all_news (Am b) (map (λ c. CallsIt c) cs ++ xs) ≡ news_by b cs ++ all_news (Am d) xs
-  given_are : all_given l (Am b) (map (λ c. CallsIt c) cs ++ xs) ≡ given_by b cs ++ all_given l (Am d) xs
-  raised_are : all_raised l (Am b) (map (λ c. CallsIt c) cs ++ xs) ≡ raised_by b cs ++ all_raised l (Am d) xs
-  confirmed_are : all_confirmed l (Am b) (map (λ c. CallsIt c) cs ++ xs)
-      ≡ confirmed_by b cs ++ all_confirmed l (Am d) xs
+  given_are : all_acked given_in l (Am b) (map (λ c. CallsIt c) cs ++ xs)
+      ≡ given_by b cs ++ all_acked given_in l (Am d) xs
+  raised_are : all_acked raised_in l (Am b) (map (λ c. CallsIt c) cs ++ xs)
+      ≡ raised_by b cs ++ all_acked raised_in l (Am d) xs
+  confirmed_are : all_acked confirmed_in l (Am b) (map (λ c. CallsIt c) cs ++ xs)
+      ≡ confirmed_by b cs ++ all_acked confirmed_in l (Am d) xs
 
 few_so : (bits l : ℕ) (cs : List Call) (b d : State) (xs : List BearerStep) → Turns b cs d → IsSteady bits l b
     → Few bits l cs b d xs
@@ -115,9 +93,9 @@ few_so bits l (c ∷ []) b d xs t h =
       ups_are = ap (λ (up : List (List ℕ)). up ++ all_ups l (after (Am b) c) xs) (sym (call_ups l b c h.between))
           ∙ ap (λ (f : Flow). ups_among (tells b c) ++ all_ups l f xs) (is_called b c);
       news_are = ap (λ (f : Flow). news (Am b) c ++ all_news f xs) (is_called b c);
-      given_are = ap (λ (f : Flow). given_in b c ++ all_given l f xs) (is_called b c);
-      raised_are = ap (λ (f : Flow). raised_in b c ++ all_raised l f xs) (is_called b c);
-      confirmed_are = ap (λ (f : Flow). confirmed_in b c ++ all_confirmed l f xs) (is_called b c);
+      given_are = ap (λ (f : Flow). given_in b c ++ all_acked given_in l f xs) (is_called b c);
+      raised_are = ap (λ (f : Flow). raised_in b c ++ all_acked raised_in l f xs) (is_called b c);
+      confirmed_are = ap (λ (f : Flow). confirmed_in b c ++ all_acked confirmed_in l f xs) (is_called b c);
     })
 few_so bits l (c ∷ x ∷ cs) b d xs t h = absurd t
 
@@ -129,12 +107,12 @@ record StepGoes (bits l : ℕ) (side : Side) (p : Pair) (x : LifeStep) (xs : Lis
       ≡ ups_in_at side p x ++ all_ups l (Am (own side (lives_on p x)).bearer) xs
   news_are : all_news (Am (own side p).bearer) (does_at side p x ++ xs)
       ≡ news_in_at side p x ++ all_news (Am (own side (lives_on p x)).bearer) xs
-  given_are : all_given l (Am (own side p).bearer) (does_at side p x ++ xs)
-      ≡ given_in_at side p x ++ all_given l (Am (own side (lives_on p x)).bearer) xs
-  raised_are : all_raised l (Am (own side p).bearer) (does_at side p x ++ xs)
-      ≡ raised_in_at side p x ++ all_raised l (Am (own side (lives_on p x)).bearer) xs
-  confirmed_are : all_confirmed l (Am (own side p).bearer) (does_at side p x ++ xs)
-      ≡ confirmed_in_at side p x ++ all_confirmed l (Am (own side (lives_on p x)).bearer) xs
+  given_are : all_acked given_in l (Am (own side p).bearer) (does_at side p x ++ xs)
+      ≡ in_at side given_by p x ++ all_acked given_in l (Am (own side (lives_on p x)).bearer) xs
+  raised_are : all_acked raised_in l (Am (own side p).bearer) (does_at side p x ++ xs)
+      ≡ in_at side raised_by p x ++ all_acked raised_in l (Am (own side (lives_on p x)).bearer) xs
+  confirmed_are : all_acked confirmed_in l (Am (own side p).bearer) (does_at side p x ++ xs)
+      ≡ in_at side confirmed_by p x ++ all_acked confirmed_in l (Am (own side (lives_on p x)).bearer) xs
 
 restart_goes : (bits l : ℕ) (side : Side) (p : Pair) (keys : Keys) (xs : List BearerStep)
     → IsSteady bits l (own side p).bearer → StepGoes bits l side p (Restarts keys) xs
@@ -146,9 +124,9 @@ restart_goes bits l Nb p keys xs h =
       ups_are = ap (λ (f : Flow). ends_up l (Am b) ++ all_ups l f xs) r.left
           ∙ ap (λ (up : List (List ℕ)). up ++ all_ups l (Am (restarts b keys)) xs) (sym (end_ups l b h.between));
       news_are = ap (λ (f : Flow). all_news f xs) r.left;
-      given_are = ap (λ (f : Flow). all_given l f xs) r.left;
-      raised_are = ap (λ (f : Flow). all_raised l f xs) r.left;
-      confirmed_are = ap (λ (f : Flow). all_confirmed l f xs) r.left;
+      given_are = ap (λ (f : Flow). all_acked given_in l f xs) r.left;
+      raised_are = ap (λ (f : Flow). all_acked raised_in l f xs) r.left;
+      confirmed_are = ap (λ (f : Flow). all_acked confirmed_in l f xs) r.left;
     }
 restart_goes bits l Ue p keys xs h =
     let b = p.far.bearer in
@@ -158,9 +136,9 @@ restart_goes bits l Ue p keys xs h =
       ups_are = ap (λ (f : Flow). ends_up l (Am b) ++ all_ups l f xs) r.left
           ∙ ap (λ (up : List (List ℕ)). up ++ all_ups l (Am (restarts b keys)) xs) (sym (end_ups l b h.between));
       news_are = ap (λ (f : Flow). all_news f xs) r.left;
-      given_are = ap (λ (f : Flow). all_given l f xs) r.left;
-      raised_are = ap (λ (f : Flow). all_raised l f xs) r.left;
-      confirmed_are = ap (λ (f : Flow). all_confirmed l f xs) r.left;
+      given_are = ap (λ (f : Flow). all_acked given_in l f xs) r.left;
+      raised_are = ap (λ (f : Flow). all_acked raised_in l f xs) r.left;
+      confirmed_are = ap (λ (f : Flow). all_acked confirmed_in l f xs) r.left;
     }
 
 step_goes : (bits l : ℕ) (side : Side) (p : Pair) (x : LifeStep) (xs : List BearerStep)
@@ -191,10 +169,12 @@ pub record LivesGo (bits l : ℕ) (side : Side) (p : Pair) (xs : List LifeStep) 
   pub steady : IsSteady bits l (own side (lives xs p)).bearer
   pub ups_are : over (ups_in_at side) xs p ≡ all_ups l (Am (own side p).bearer) (all_does side xs p)
   pub news_are : over (news_in_at side) xs p ≡ all_news (Am (own side p).bearer) (all_does side xs p)
-  pub given_are : over (given_in_at side) xs p ≡ all_given l (Am (own side p).bearer) (all_does side xs p)
-  pub raised_are : over (raised_in_at side) xs p ≡ all_raised l (Am (own side p).bearer) (all_does side xs p)
-  pub confirmed_are : over (confirmed_in_at side) xs p
-      ≡ all_confirmed l (Am (own side p).bearer) (all_does side xs p)
+  pub given_are : over (in_at side given_by) xs p
+      ≡ all_acked given_in l (Am (own side p).bearer) (all_does side xs p)
+  pub raised_are : over (in_at side raised_by) xs p
+      ≡ all_acked raised_in l (Am (own side p).bearer) (all_does side xs p)
+  pub confirmed_are : over (in_at side confirmed_by) xs p
+      ≡ all_acked confirmed_in l (Am (own side p).bearer) (all_does side xs p)
 
 pub lives_go : (bits l : ℕ) (side : Side) (xs : List LifeStep) (p : Pair) → IsSteady bits l (own side p).bearer
     → LivesGo bits l side p xs
@@ -215,10 +195,10 @@ lives_go bits l side (x ∷ xs) p h =
       steady = rest.steady;
       ups_are = ap (λ (up : List (List ℕ)). ups_in_at side p x ++ up) rest.ups_are ∙ sym one.ups_are;
       news_are = ap (λ (taken : List (List ℕ)). news_in_at side p x ++ taken) rest.news_are ∙ sym one.news_are;
-      given_are = ap (λ (given : List (List ℕ)). given_in_at side p x ++ given) rest.given_are ∙ sym one.given_are;
-      raised_are = ap (λ (raised : List (List ℕ)). raised_in_at side p x ++ raised) rest.raised_are
+      given_are = ap (λ (given : List (List ℕ)). in_at side given_by p x ++ given) rest.given_are ∙ sym one.given_are;
+      raised_are = ap (λ (raised : List (List ℕ)). in_at side raised_by p x ++ raised) rest.raised_are
           ∙ sym one.raised_are;
-      confirmed_are = ap (λ (news : List ℕ). confirmed_in_at side p x ++ news) rest.confirmed_are
+      confirmed_are = ap (λ (news : List ℕ). in_at side confirmed_by p x ++ news) rest.confirmed_are
           ∙ sym one.confirmed_are;
     }
 

@@ -24,9 +24,8 @@ use Rattle.law_deliver.proofs.AmDelivery.Accounts.{told_of, Agrees}
 use Rattle.law_deliver.proofs.AmDelivery.Arrived.{is_what_came}
 use Rattle.law_deliver.proofs.AmDelivery.Beginning.{first_way, begins_joined}
 use Rattle.law_deliver.proofs.AmDelivery.Joined.{Way, IsWay, Joins, JoinedPair, pdcp}
-use Rattle.law_deliver.proofs.AmDelivery.Lasting.{Lasts, lasts_so, lasts_then, IsOfLife, near_given_in}
-use Rattle.law_deliver.proofs.AmDelivery.Lasting.{far_given_in, near_raised_in, far_raised_in, near_confirmed_in}
-use Rattle.law_deliver.proofs.AmDelivery.Lasting.{far_confirmed_in}
+use Rattle.law_deliver.proofs.AmDelivery.Lasting.{Lasts, lasts_so, lasts_then, IsOfLife, given_by, raised_by}
+use Rattle.law_deliver.proofs.AmDelivery.Lasting.{confirmed_by, near_in, far_in}
 use Rattle.law_deliver.proofs.AmDelivery.Promises.{GoesOn, BothGoOn, StepsGoOn, goes_then, goes_not}
 use Rattle.law_deliver.proofs.AmDelivery.Restarting.{restarts_go_on}
 
@@ -44,9 +43,11 @@ pub record AllGoOn (bits : ℕ) (down up : Way) (p : Pair) (xs : List LifeStep) 
   pub down_goes : GoesOn down down_after (over near_news_in xs p) (over far_ups_in xs p) (over down_in xs p)
   pub up_goes : GoesOn up up_after (over far_news_in xs p) (over near_ups_in xs p) (over up_in xs p)
   pub down_lasts : AllByRecursion IsOfLife xs
-      → Lasts down down_after (over near_given_in xs p) (over far_raised_in xs p) (over near_confirmed_in xs p)
+      → Lasts down down_after (over (near_in given_by) xs p) (over (far_in raised_by) xs p)
+      (over (near_in confirmed_by) xs p)
   pub up_lasts : AllByRecursion IsOfLife xs
-      → Lasts up up_after (over far_given_in xs p) (over near_raised_in xs p) (over far_confirmed_in xs p)
+      → Lasts up up_after (over (far_in given_by) xs p) (over (near_in raised_by) xs p)
+      (over (far_in confirmed_by) xs p)
 
 pub all_go : StepsGoOn → (xs : List LifeStep) (bits : ℕ) (down up : Way) (p : Pair) → AreLiving p xs
     → JoinedPair bits down up p → AllGoOn bits down up p xs
@@ -73,12 +74,14 @@ all_go steps (x ∷ xs) bits down up p given h =
       up_goes = goes_then up one.up_after rest.up_after
           (far_news_in p x) (over far_news_in xs q) (near_ups_in p x) (over near_ups_in xs q) one.up_goes rest.up_goes;
       down_lasts = λ in'.
-          lasts_then down one.down_after rest.down_after (near_given_in p x) (over near_given_in xs q)
-          (far_raised_in p x) (over far_raised_in xs q) (near_confirmed_in p x) (over near_confirmed_in xs q)
+          lasts_then down one.down_after rest.down_after (near_in given_by p x) (over (near_in given_by) xs q)
+          (far_in raised_by p x) (over (far_in raised_by) xs q)
+          (near_in confirmed_by p x) (over (near_in confirmed_by) xs q)
           (one.down_lasts in'.0) (rest.down_lasts in'.1);
       up_lasts = λ in'.
-          lasts_then up one.up_after rest.up_after (far_given_in p x) (over far_given_in xs q)
-          (near_raised_in p x) (over near_raised_in xs q) (far_confirmed_in p x) (over far_confirmed_in xs q)
+          lasts_then up one.up_after rest.up_after (far_in given_by p x) (over (far_in given_by) xs q)
+          (near_in raised_by p x) (over (near_in raised_by) xs q)
+          (far_in confirmed_by p x) (over (far_in confirmed_by) xs q)
           (one.up_lasts in'.0) (rest.up_lasts in'.1);
     }
 

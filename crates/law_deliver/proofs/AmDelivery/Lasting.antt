@@ -81,29 +81,14 @@ raised_by b (c ∷ cs) = raised_in b c
 abbrev pub confirmed_by : State → List Call → List ℕ
 confirmed_by b cs = confirmed_as_heard (heard_by cs) b.tx
 
-abbrev pub near_given_in : Pair → LifeStep → List (List ℕ)
-near_given_in p (InLife s) = given_by p.near.bearer (near_calls p s)
-near_given_in p (Restarts keys) = []
+-- so at each end
+abbrev pub near_in : {X : Type 0} → (State → List Call → List X) → Pair → LifeStep → List X
+near_in by p (InLife s) = by p.near.bearer (near_calls p s)
+near_in by p (Restarts keys) = []
 
-abbrev pub far_given_in : Pair → LifeStep → List (List ℕ)
-far_given_in p (InLife s) = given_by p.far.bearer (far_calls p s)
-far_given_in p (Restarts keys) = []
-
-abbrev pub near_raised_in : Pair → LifeStep → List (List ℕ)
-near_raised_in p (InLife s) = raised_by p.near.bearer (near_calls p s)
-near_raised_in p (Restarts keys) = []
-
-abbrev pub far_raised_in : Pair → LifeStep → List (List ℕ)
-far_raised_in p (InLife s) = raised_by p.far.bearer (far_calls p s)
-far_raised_in p (Restarts keys) = []
-
-abbrev pub near_confirmed_in : Pair → LifeStep → List ℕ
-near_confirmed_in p (InLife s) = confirmed_by p.near.bearer (near_calls p s)
-near_confirmed_in p (Restarts keys) = []
-
-abbrev pub far_confirmed_in : Pair → LifeStep → List ℕ
-far_confirmed_in p (InLife s) = confirmed_by p.far.bearer (far_calls p s)
-far_confirmed_in p (Restarts keys) = []
+abbrev pub far_in : {X : Type 0} → (State → List Call → List X) → Pair → LifeStep → List X
+far_in by p (InLife s) = by p.far.bearer (far_calls p s)
+far_in by p (Restarts keys) = []
 
 abbrev pub IsOfLife : LifeStep → Type 0
 IsOfLife (InLife s) = Unit {0}

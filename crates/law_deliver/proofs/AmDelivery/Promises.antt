@@ -8,8 +8,7 @@ use Rattle.law_words.specs.Arrivals.{AccountEntry}
 use Rattle.law_deliver.specs.AmDelivery.Arrival.{down_in, up_in}
 use Rattle.law_deliver.proofs.AmDelivery.Joined.{Way, JoinedPair, pdcp}
 use Rattle.law_deliver.proofs.AmDelivery.Accounts.{told_of, TellsOn, tells_then}
-use Rattle.law_deliver.proofs.AmDelivery.Lasting.{Lasts, IsOfLife, near_given_in, far_given_in, near_raised_in}
-use Rattle.law_deliver.proofs.AmDelivery.Lasting.{far_raised_in, near_confirmed_in, far_confirmed_in}
+use Rattle.law_deliver.proofs.AmDelivery.Lasting.{Lasts, IsOfLife, given_by, raised_by, confirmed_by, near_in, far_in}
 
 -- a way goes on: what went up and what was taken for the first time grow by these, and so much is told of it
 pub record GoesOn (w v : Way) (news ups : List (List ℕ)) (told : List AccountEntry) : Type 0 where
@@ -30,15 +29,15 @@ goes_not w = record {
   tells = λ a k. k;
 }
 
-pub goes_then : {xs ys : List AccountEntry} (u v w : Way) (news more ups higher : List (List ℕ)) → GoesOn u v news ups xs
-    → GoesOn v w more higher ys
-    → GoesOn u w (news ++ more) (ups ++ higher) (xs ++ ys)
-goes_then {xs} {ys} u v w news more ups higher h k = record {
+pub goes_then : {xs ys : List AccountEntry} (u v w : Way) (news more ups last : List (List ℕ)) → GoesOn u v news ups xs
+    → GoesOn v w more last ys
+    → GoesOn u w (news ++ more) (ups ++ last) (xs ++ ys)
+goes_then {xs} {ys} u v w news more ups last h k = record {
   bits = k.bits ∙ h.bits;
   protection = k.protection ∙ h.protection;
   first = k.first ∙ h.first;
   sdus_are = k.sdus_are ∙ ap (λ l. l ++ more) h.sdus_are ∙ append_assoc (pdcp u).sdus news more;
-  ups_are = k.ups_are ∙ ap (λ l. l ++ higher) h.ups_are ∙ append_assoc (pdcp u).up ups higher;
+  ups_are = k.ups_are ∙ ap (λ l. l ++ last) h.ups_are ∙ append_assoc (pdcp u).up ups last;
   tells = tells_then xs ys (pdcp u) (pdcp v) (pdcp w) (told_of u) (told_of v) (told_of w) h.tells k.tells;
 }
 
@@ -48,8 +47,10 @@ pub record BothGoOn (bits : ℕ) (down up : Way) (p : Pair) (x : LifeStep) : Typ
   pub joined : JoinedPair bits down_after up_after (lives_on p x)
   pub down_goes : GoesOn down down_after (near_news_in p x) (far_ups_in p x) (down_in p x)
   pub up_goes : GoesOn up up_after (far_news_in p x) (near_ups_in p x) (up_in p x)
-  pub down_lasts : IsOfLife x → Lasts down down_after (near_given_in p x) (far_raised_in p x) (near_confirmed_in p x)
-  pub up_lasts : IsOfLife x → Lasts up up_after (far_given_in p x) (near_raised_in p x) (far_confirmed_in p x)
+  pub down_lasts : IsOfLife x
+      → Lasts down down_after (near_in given_by p x) (far_in raised_by p x) (near_in confirmed_by p x)
+  pub up_lasts : IsOfLife x
+      → Lasts up up_after (far_in given_by p x) (near_in raised_by p x) (far_in confirmed_by p x)
 
 abbrev pub StepsGoOn : Type 0
 StepsGoOn = (bits : ℕ) (down up : Way) (p : Pair) (s : Step) → JoinedPair bits down up p → IsGiven p s → MayHappen p s
