@@ -59,7 +59,7 @@ use Rattle.law_deliver.proofs.AmChannel.Delivery.{first_of, pair, both_ends, bot
 use Rattle.law_deliver.proofs.AmChannel.Ends.{step_end, step_so, step_in_life, steps_more, calls_are, of_life, all_go}
 use Rattle.law_deliver.proofs.AmChannel.Ends.{all_ups, goes_by_calls}
 use Rattle.law_deliver.proofs.AmChannel.Pairs.{own, all_does, ups_in_at, news_in_at, in_at, acked_on, ends_none}
-use Rattle.law_deliver.proofs.AmChannel.Pairs.{all_acked, lives_go}
+use Rattle.law_deliver.proofs.AmChannel.Pairs.{all_acked, LivesGo, lives_go}
 use Rattle.law_deliver.proofs.AmChannel.Walk.{BothMatch, Walks, step_walks, matches_on}
 use Rattle.law_given.specs.Beside.{GoesOnAs}
 use Rattle.law_given.specs.Joined.{Direction, AreJoined, rlc}
@@ -310,15 +310,13 @@ module _ (l : ℕ) (c : BearerConfig) (nb ue : End) (steps : List AirStep) (x : 
 
 -- ---- what RLC is given, hands up and newly confirms in a step of a life
 
--- by the calls of a bearer
-abbrev pub offered_by : Flow → BearerCall → List (List ℕ)
-offered_by (Tm b) c = []
-offered_by (Um b) c = []
-offered_by (Am b) c = offered_in b c
+-- by the calls of a bearer of acknowledged data
+abbrev pub acked_over : {X : Type 0} → (State → BearerCall → List X) → Flow → List BearerCall → List X
+acked_over by f [] = []
+acked_over by f (c ∷ cs) = acked_on by f c ++ acked_over by (called f c) cs
 
 abbrev pub offered_over : Flow → List BearerCall → List (List ℕ)
-offered_over f [] = []
-offered_over f (c ∷ cs) = offered_by f c ++ offered_over (called f c) cs
+offered_over = acked_over offered_in
 
 abbrev pub ready_as : State → BearerCall → List (List ℕ)
 ready_as b (Submit sdu) = []
@@ -328,14 +326,8 @@ ready_as b (Expire clock) = []
 ready_as b Tick = []
 ready_as b (SetDiscard ttis) = []
 
-abbrev pub ready_by : Flow → BearerCall → List (List ℕ)
-ready_by (Tm b) c = []
-ready_by (Um b) c = []
-ready_by (Am b) c = ready_as b c
-
 abbrev pub ready_over : Flow → List BearerCall → List (List ℕ)
-ready_over f [] = []
-ready_over f (c ∷ cs) = ready_by f c ++ ready_over (called f c) cs
+ready_over = acked_over ready_as
 
 -- what it newly confirms as STATUS PDUs come
 abbrev pub news_as : State → BearerCall → List ℕ
@@ -346,73 +338,58 @@ news_as b (Expire clock) = []
 news_as b Tick = []
 news_as b (SetDiscard ttis) = []
 
-abbrev pub news_by : Flow → BearerCall → List ℕ
-news_by (Tm b) c = []
-news_by (Um b) c = []
-news_by (Am b) c = news_as b c
-
 abbrev pub news_over : Flow → List BearerCall → List ℕ
-news_over f [] = []
-news_over f (c ∷ cs) = news_by f c ++ news_over (called f c) cs
+news_over = acked_over news_as
 
-given_same : (l : ℕ) (f : Flow) (c : BearerCall) → acked_on given_in f c ≡ offered_by f c
-given_same l (Tm b) c = refl
-given_same l (Um b) c = refl
-given_same l (Am b) (Submit sdu) = refl
-given_same l (Am b) (Take share held) = refl
-given_same l (Am b) (Arrive pdu) = refl
-given_same l (Am b) (Expire clock) = refl
-given_same l (Am b) Tick = refl
-given_same l (Am b) (SetDiscard ttis) = refl
+-- as in its steps
+abbrev AreSame : {X : Type 0} → (State → BearerCall → List X) → (State → BearerCall → List X) → Type 0
+AreSame in' by = (b : State) (c : BearerCall) → in' b c ≡ by b c
 
-given_over : (l : ℕ) (cs : List BearerCall) (f : Flow) → of_calls (λ n. acked_on given_in) l f cs ≡ offered_over f cs
-given_over l [] f = refl
-given_over l (c ∷ cs) f =
-    ap (λ (xs : List (List ℕ)). xs ++ of_calls (λ n. acked_on given_in) l (called f c) cs) (given_same l f c)
-    ∙ ap (λ (xs : List (List ℕ)). offered_by f c ++ xs) (given_over l cs (called f c))
+given_same : AreSame given_in offered_in
+given_same b (Submit sdu) = refl
+given_same b (Take share held) = refl
+given_same b (Arrive pdu) = refl
+given_same b (Expire clock) = refl
+given_same b Tick = refl
+given_same b (SetDiscard ttis) = refl
 
 read_same : (x : Result AcknowledgedPdu RlcRefusal) (r : Receiver) → raised_by_pdu x r ≡ ready_in x r
 read_same (Err refused) r = refl
 read_same (Ok (Payload pdu)) r = refl
 read_same (Ok (Status pdu)) r = refl
 
-raised_same : (l : ℕ) (f : Flow) (c : BearerCall) → acked_on raised_in f c ≡ ready_by f c
-raised_same l (Tm b) c = refl
-raised_same l (Um b) c = refl
-raised_same l (Am b) (Submit sdu) = refl
-raised_same l (Am b) (Take share held) = refl
-raised_same l (Am b) (Arrive pdu) = read_same (am_at pdu) b.rx
-raised_same l (Am b) (Expire clock) = refl
-raised_same l (Am b) Tick = refl
-raised_same l (Am b) (SetDiscard ttis) = refl
-
-raised_over : (l : ℕ) (cs : List BearerCall) (f : Flow) → of_calls (λ n. acked_on raised_in) l f cs ≡ ready_over f cs
-raised_over l [] f = refl
-raised_over l (c ∷ cs) f =
-    ap (λ (xs : List (List ℕ)). xs ++ of_calls (λ n. acked_on raised_in) l (called f c) cs) (raised_same l f c)
-    ∙ ap (λ (xs : List (List ℕ)). ready_by f c ++ xs) (raised_over l cs (called f c))
+raised_same : AreSame raised_in ready_as
+raised_same b (Submit sdu) = refl
+raised_same b (Take share held) = refl
+raised_same b (Arrive pdu) = read_same (am_at pdu) b.rx
+raised_same b (Expire clock) = refl
+raised_same b Tick = refl
+raised_same b (SetDiscard ttis) = refl
 
 told_same : (x : Result AcknowledgedPdu RlcRefusal) (b : State) → confirmed_by_pdu x b.tx ≡ news_in x b
 told_same (Err refused) b = refl
 told_same (Ok (Payload pdu)) b = refl
 told_same (Ok (Status pdu)) b = refl
 
-confirmed_same : (l : ℕ) (f : Flow) (c : BearerCall) → acked_on confirmed_in f c ≡ news_by f c
-confirmed_same l (Tm b) c = refl
-confirmed_same l (Um b) c = refl
-confirmed_same l (Am b) (Submit sdu) = refl
-confirmed_same l (Am b) (Take share held) = refl
-confirmed_same l (Am b) (Arrive pdu) = told_same (am_at pdu) b
-confirmed_same l (Am b) (Expire clock) = refl
-confirmed_same l (Am b) Tick = refl
-confirmed_same l (Am b) (SetDiscard ttis) = refl
+confirmed_same : AreSame confirmed_in news_as
+confirmed_same b (Submit sdu) = refl
+confirmed_same b (Take share held) = refl
+confirmed_same b (Arrive pdu) = told_same (am_at pdu) b
+confirmed_same b (Expire clock) = refl
+confirmed_same b Tick = refl
+confirmed_same b (SetDiscard ttis) = refl
 
-confirmed_over : (l : ℕ) (cs : List BearerCall) (f : Flow)
-    → of_calls (λ n. acked_on confirmed_in) l f cs ≡ news_over f cs
-confirmed_over l [] f = refl
-confirmed_over l (c ∷ cs) f =
-    ap (λ (xs : List ℕ). xs ++ of_calls (λ n. acked_on confirmed_in) l (called f c) cs) (confirmed_same l f c)
-    ∙ ap (λ (xs : List ℕ). news_by f c ++ xs) (confirmed_over l cs (called f c))
+module _ {X : Type 0} (in' by : State → BearerCall → List X) (same : AreSame in' by) where
+  one_same : (f : Flow) (c : BearerCall) → acked_on in' f c ≡ acked_on by f c
+  one_same (Tm b) c = refl
+  one_same (Um b) c = refl
+  one_same (Am b) c = same b c
+
+  all_same : (l : ℕ) (cs : List BearerCall) (f : Flow) → of_calls (λ n. acked_on in') l f cs ≡ acked_over by f cs
+  all_same l [] f = refl
+  all_same l (c ∷ cs) f =
+      ap (λ (xs : List X). xs ++ of_calls (λ n. acked_on in') l (called f c) cs) (one_same f c)
+      ∙ ap (λ (xs : List X). acked_on by f c ++ xs) (all_same l cs (called f c))
 
 -- a direction goes on
 goes_so : (d : Direction) (w v : Way) (given raised offers ups : List (List ℕ)) (told newly : List ℕ) → d ≡ of_way w
@@ -453,38 +430,33 @@ module _ (l : ℕ) (c : BearerConfig) (nb ue : End) (steps : List AirStep) (s : 
       does_is l c nb ue steps (InLife s) g t side
       ∙ calls_are l (calls_at side here (InLife s)) (end_at side here) (step_in_life l side here s g)
 
+  -- what is said of the steps of the pair, by the calls
+  so_over : {X : Type 0} (in' by : State → BearerCall → List X) → AreSame in' by → (side : Side) (said : List X)
+      → said ≡ all_acked in' l (Am (own side t.last).bearer) (all_does side one.steps t.last)
+      → said ≡ acked_over by (flow l (end_at side here)) (calls_of_step l side here (InLife s))
+  so_over in' by same side said is =
+      let cs = calls_of_step l side here (InLife s) in
+      is
+      ∙ ap (all_acked in' l (Am (own side t.last).bearer)) (life_does side)
+      ∙ ap (λ (f : Flow). all_acked in' l f (map (λ y. CallsIt y) cs))
+      (sym (own_is l c nb ue steps (InLife s) g t side))
+      ∙ of_life (λ n. acked_on in') ends_none l cs (flow l (end_at side here))
+      ∙ all_same in' by same l cs (flow l (end_at side here))
+
+  goes : (side : Side) → LivesGo c.pdcp_bits l side t.last one.steps
+  goes side = lives_go c.pdcp_bits l side one.steps t.last (steady l c nb ue steps (InLife s) g t side)
+
   given_so : (side : Side) → over (in_at side given_by) one.steps t.last
       ≡ offered_over (flow l (end_at side here)) (calls_of_step l side here (InLife s))
-  given_so side =
-      let cs = calls_of_step l side here (InLife s) in
-      (lives_go c.pdcp_bits l side one.steps t.last (steady l c nb ue steps (InLife s) g t side)).given_are
-      ∙ ap (all_acked given_in l (Am (own side t.last).bearer)) (life_does side)
-      ∙ ap (λ (f : Flow). all_acked given_in l f (map (λ y. CallsIt y) cs))
-      (sym (own_is l c nb ue steps (InLife s) g t side))
-      ∙ of_life (λ n. acked_on given_in) ends_none l cs (flow l (end_at side here))
-      ∙ given_over l cs (flow l (end_at side here))
+  given_so side = so_over given_in offered_in given_same side _ (goes side).given_are
 
   raised_so : (side : Side) → over (in_at side raised_by) one.steps t.last
       ≡ ready_over (flow l (end_at side here)) (calls_of_step l side here (InLife s))
-  raised_so side =
-      let cs = calls_of_step l side here (InLife s) in
-      (lives_go c.pdcp_bits l side one.steps t.last (steady l c nb ue steps (InLife s) g t side)).raised_are
-      ∙ ap (all_acked raised_in l (Am (own side t.last).bearer)) (life_does side)
-      ∙ ap (λ (f : Flow). all_acked raised_in l f (map (λ y. CallsIt y) cs))
-      (sym (own_is l c nb ue steps (InLife s) g t side))
-      ∙ of_life (λ n. acked_on raised_in) ends_none l cs (flow l (end_at side here))
-      ∙ raised_over l cs (flow l (end_at side here))
+  raised_so side = so_over raised_in ready_as raised_same side _ (goes side).raised_are
 
   confirmed_so : (side : Side) → over (in_at side confirmed_by) one.steps t.last
       ≡ news_over (flow l (end_at side here)) (calls_of_step l side here (InLife s))
-  confirmed_so side =
-      let cs = calls_of_step l side here (InLife s) in
-      (lives_go c.pdcp_bits l side one.steps t.last (steady l c nb ue steps (InLife s) g t side)).confirmed_are
-      ∙ ap (all_acked confirmed_in l (Am (own side t.last).bearer)) (life_does side)
-      ∙ ap (λ (f : Flow). all_acked confirmed_in l f (map (λ y. CallsIt y) cs))
-      (sym (own_is l c nb ue steps (InLife s) g t side))
-      ∙ of_life (λ n. acked_on confirmed_in) ends_none l cs (flow l (end_at side here))
-      ∙ confirmed_over l cs (flow l (end_at side here))
+  confirmed_so side = so_over confirmed_in news_as confirmed_same side _ (goes side).confirmed_are
 
   there_on : GoesFrom l Nb Ue here (InLife s) t.joined.there (next l c nb ue steps (InLife s) g t).joined.there
   there_on =
