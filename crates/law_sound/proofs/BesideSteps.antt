@@ -8,7 +8,8 @@ use Rattle.journal_flows.specs.FlowsTold.{Histories, histories}
 use Rattle.journal_flows.specs.Gathering.{Journal, behind_landing, behind_record}
 use Rattle.law_deliver.specs.AmFlow.Air.{Air, Comes, Step, Passes}
 use Rattle.law_deliver.specs.AmFlow.Carrying.{Carried}
-use Rattle.law_sound.specs.BesideLaws.{IsGatheredBehind, ReadRecord, behind_all, station_of, at_side, octets_of}
+use Rattle.law_run.specs.TwoEnds.Along.{at_side}
+use Rattle.law_sound.specs.BesideLaws.{IsGatheredBehind, ReadRecord, behind_all, station_of, octets_of}
 use Rattle.law_sound.specs.BesideSteps.{OfAct, OfComing, OfBuilding, OfTti, StepsAreGathered}
 use Rattle.law_sound.specs.LivedHistories.{AreLived}
 use Rattle.law_sound.proofs.BesideActs.{acts_are_gathered, ttis_are_gathered}

@@ -263,7 +263,7 @@ module _ (l : ℕ) (low : l ≤ 10) (newer : List Group) (now : Group) (past : L
       ∙ ap (λ (s : Bearer History). Some s) (same_side side b))
       told xs (tells d call) (call-first d call mine) own far loops blocks answered is
 
-  -- ---- so journals agree behind them
+  -- ---- so journals agree behind them, the latest record first
 
   records_behind : (ks : List (Option Layout)) (before told : List Record) (more : List Record) (j : Journal Histories)
       → behind_records flows may past ks before (told ++ more) j
@@ -277,15 +277,19 @@ module _ (l : ℕ) (low : l ≤ 10) (newer : List Group) (now : Group) (past : L
       (sym (append_assoc (reverse told) (one ∷ []) before)
       ∙ ap (λ (zs : List Record). zs ++ before) (sym (reverse-append (one ∷ []) told)))
 
+  pub journal_more : (told more : List Record) → journal_at l low newer now past none (told ++ more)
+      ≡ behind_records flows may past (kinds (now ∷ past)) (reverse told) more
+      (journal_at l low newer now past none told)
+  journal_more told more =
+      let ks = kinds (now ∷ past) in
+      records_behind ks [] told more (behind_line flows now.line (behind flows no_events may past))
+      ∙ ap (λ (before : List Record). behind_records flows may past ks before more
+      (journal_at l low newer now past none told)) (append-nil (reverse told))
+
   pub agree_more : (told : List Record) (xs : List ReadRecord) (j : Journal Histories)
       → AgreeOn l (journal_at l low newer now past none told) j → AnswerAlike l may past (reverse told) xs
       → AgreeOn l (journal_at l low newer now past none (told ++ records_of xs)) (behind_all (kinds (now ∷ past)) xs j)
   agree_more told xs j agree answers =
       let ks = kinds (now ∷ past) in
-      let begins = behind_line flows now.line (behind flows no_events may past) in
-      let at_first = behind_records flows may past ks [] told begins in
-      subst (λ (i : Journal Histories). AgreeOn l i (behind_all ks xs j))
-      (ap (λ (before : List Record). behind_records flows may past ks before (records_of xs) at_first)
-      (sym (append-nil (reverse told)))
-      ∙ sym (records_behind ks [] told (records_of xs) begins))
+      subst (λ (i : Journal Histories). AgreeOn l i (behind_all ks xs j)) (sym (journal_more told (records_of xs)))
       ((journals_agree l (journal_at l low newer now past none told) j agree).all ks may past (reverse told) xs answers)

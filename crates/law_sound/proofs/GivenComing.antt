@@ -1,6 +1,7 @@
 -- A step of a life in which a block comes: what is gathered of what PDCP gives RLC goes on beside both ends.
 use Rattle.std.proofs.Common.{◌≡◌, ◌≤◌, ℕ, if◌then◌else◌, Bool, true, false, List, [], ◌∷◌, ◌++◌, Option, Some, None}
-use Rattle.std.proofs.Common.{slice_get, slice_index_or, unwrap_or, append-nil, append_assoc, refl, ap, sym, subst, ◌∙◌}
+use Rattle.std.proofs.Common.{reverse, slice_get, slice_index_or, unwrap_or, append-nil, append_assoc, refl, ap, sym}
+use Rattle.std.proofs.Common.{subst, ◌∙◌}
 use Rattle.std.specs.List.{AllByRecursion}
 use Rattle.std.specs.Prelude.{option_to_list, Result, Ok, Err}
 use Rattle.air_record.specs.declared.record.Arrived.TheVariants.{Got}
@@ -35,9 +36,9 @@ use Rattle.rlc_pdu.specs.declared.fault.RlcRefusal.{RlcRefusal}
 use Rattle.rlc_pdu.specs.Pdus.{AcknowledgedPdu, Payload, Status}
 use Rattle.rlc_pdu.specs.Reading.{am_at}
 use Rattle.journal_flows.specs.declared.parcels.Parcel.{Parcel}
-use Rattle.journal_flows.specs.FlowsTold.{Histories, histories, no_events}
-use Rattle.journal_flows.specs.Gathering.{Gatherer, Journal, Sending, sending_of, behind_landing, behind_event}
-use Rattle.journal_flows.specs.Gathering.{behind_record, behind_records, behind_line, behind, MayTake}
+use Rattle.journal_flows.specs.FlowsTold.{Histories, histories}
+use Rattle.journal_flows.specs.Gathering.{Gatherer, Journal, Sending, sending_of, behind_record, behind_records}
+use Rattle.journal_flows.specs.Gathering.{MayTake}
 use Rattle.journal_flows.specs.Gathering.{sent_last as sent_parcels}
 use Rattle.journal_given.specs.Giving.{may_take_by}
 use Rattle.journal_given.specs.Supplies.{Bearer, History, histories as supplies}
@@ -64,13 +65,14 @@ use Rattle.law_given.proofs.Tied.{AreTied, TiesGoOn, calls_of_step, offered_over
 use Rattle.law_node.specs.Calls.{Receive}
 use Rattle.law_node.specs.Holding.{flow}
 use Rattle.law_node.specs.Telling.{told_of}
+use Rattle.law_run.specs.TwoEnds.Along.{at_side}
 use Rattle.law_run.specs.TwoEnds.Logs.{LogEntry, Tells, Builds, Hears, Flight, process_of, flight_behind, flight_in}
 use Rattle.law_run.specs.TwoEnds.Logs.{logged_at, logged, all_tell, log_come, log_at}
 use Rattle.law_run.proofs.EmptyLists.{parts_empty}
 use Rattle.law_run.proofs.TwoEnds.Along.{flight_more}
 use Rattle.law_words.specs.Arrivals.{account}
 use Rattle.law_sound.specs.AgreeLaws.{AgreeOn}
-use Rattle.law_sound.specs.BesideLaws.{IsGatheredBeside, at_side, station_of}
+use Rattle.law_sound.specs.BesideLaws.{IsGatheredBeside, station_of}
 use Rattle.law_sound.specs.HeldLaws.{held_parcels}
 use Rattle.law_sound.specs.LivedFails.{HaveComeNew}
 use Rattle.law_sound.specs.LivedHistories.{AreLived, Moment}
@@ -79,6 +81,7 @@ use Rattle.law_sound.proofs.Agreeing.{Agrees}
 use Rattle.law_sound.proofs.CarriedShapes.{BlockBrings, blocks_bring}
 use Rattle.law_sound.proofs.Gathering.{back}
 use Rattle.law_sound.proofs.GivenActs.{IsGatheredOn}
+use Rattle.law_sound.proofs.GivenAnswers.{journal_more}
 use Rattle.law_sound.proofs.GivenBeside.{AreGivenOf}
 use Rattle.law_sound.proofs.GivenBlocks.{HasBlock, up_to, up_to_is, BlockComes, BlockGoes, block_goes, stands_so}
 use Rattle.law_sound.proofs.GivenBlocks.{flow_is}
@@ -89,7 +92,7 @@ use Rattle.law_sound.proofs.GivenWays.{ways_go, same_state}
 use Rattle.law_sound.proofs.LaterRecords.{TellsOfNoTaking, LeavesTaking, arrivals_over, later_records_leave}
 use Rattle.law_sound.proofs.LivedFails.{AreThere}
 use Rattle.law_sound.proofs.LoggedEvents.{events_in, records_events, far_told}
-use Rattle.law_sound.proofs.SentProcesses.{processes_are}
+use Rattle.law_sound.proofs.SentProcesses.{event_keeps, landing_keeps, processes_are}
 
 -- ---- what PDUs bring that arrive
 
@@ -247,31 +250,18 @@ none_built sent (one ∷ xs) none =
     by one none = tt
 
 module _ {F : Type 0} (g : Gatherer F) where
-  event_holds : (layouts : List (Option Layout)) (more : Bool) (by side : Side) (event : Event) (j : Journal F)
-      → (sending_of side (behind_event g layouts more by event j)).held ≡ (sending_of side j).held
-  event_holds layouts more Nb Nb (events.Send lcid how sn) j = refl
-  event_holds layouts more Nb Ue (events.Send lcid how sn) j = refl
-  event_holds layouts more Ue Nb (events.Send lcid how sn) j = refl
-  event_holds layouts more Ue Ue (events.Send lcid how sn) j = refl
-  event_holds layouts more by Nb event j = refl
-  event_holds layouts more by Ue event j = refl
-
   record_holds : (layouts : List (Option Layout)) (more : Bool) (one : Record) (side : Side) (j : Journal F)
       → BuildsNone one
       → (sending_of side (behind_record g layouts more one j)).held ≡ (sending_of side j).held
-  record_holds layouts more (records.Of by event) side j none = event_holds layouts more by side event j
+  record_holds layouts more (records.Of by event) side j none =
+      event_keeps g (λ (x : Sending). x.held) (λ named x. refl) layouts more by side event j
   record_holds layouts more (records.Block direction process true version octets) side j none = absurd none
   record_holds layouts more (records.Block directions.Down process false version octets) Nb j none = refl
   record_holds layouts more (records.Block directions.Down process false version octets) Ue j none = refl
   record_holds layouts more (records.Block directions.Up process false version octets) Nb j none = refl
   record_holds layouts more (records.Block directions.Up process false version octets) Ue j none = refl
-  record_holds layouts more (records.Air direction what heard) side j none = by (is_got what) side
-    where
-      by : (b : Bool) (s : Side) → (sending_of s (if b then behind_landing g direction j else j)).held
-          ≡ (sending_of s j).held
-      by true Nb = refl
-      by true Ue = refl
-      by false s = refl
+  record_holds layouts more (records.Air direction what heard) side j none =
+      ap (λ (x : Sending). x.held) (landing_keeps g (is_got what) direction side j)
   record_holds layouts more one side j none = refl
 
   records_hold : (may_take : MayTake) (past : List Group) (layouts : List (Option Layout))
@@ -282,22 +272,6 @@ module _ {F : Type 0} (g : Gatherer F) where
       records_hold may_take past layouts (one ∷ before) told side
       (behind_record g layouts (may_take past before one) one j) none.1
       ∙ record_holds layouts (may_take past before one) one side j none.0
-
-  -- ---- records behind others, of which the latest stands first
-
-  abbrev latest : List Record → List Record → List Record
-  latest [] before = before
-  latest (one ∷ told) before = latest told (one ∷ before)
-
-  records_both : (may_take : MayTake) (past : List Group) (layouts : List (Option Layout))
-      (before told more : List Record) (j : Journal F)
-      → behind_records g may_take past layouts before (told ++ more) j
-      ≡ behind_records g may_take past layouts (latest told before) more
-      (behind_records g may_take past layouts before told j)
-  records_both may_take past layouts before [] more j = refl
-  records_both may_take past layouts before (one ∷ told) more j =
-      records_both may_take past layouts (one ∷ before) told more
-      (behind_record g layouts (may_take past before one) one j)
 
 -- what is held for the block that was sent last
 last_as : (x y : Sending) (process : ℕ) → x.held ≡ y.held → x.process ≡ process
@@ -363,13 +337,6 @@ module _ (l : ℕ) (low : l ≤ 10) (newer : List Group) (now : Group) (past : L
 
   abbrev at_told : List Record → Journal Histories
   at_told all = journal_at l low newer now past none all
-
-  journal_more : (first more : List Record)
-      → at_told (first ++ more) ≡ behind_records histories may_take past (kinds (now ∷ past))
-      (latest histories first []) more (at_told first)
-  journal_more first more =
-      records_both histories may_take past (kinds (now ∷ past)) [] first more
-      (behind_line histories now.line (behind histories no_events may_take past))
 
   module _ (from : Side) (k : ℕ) (block : Block) (is : s ≡ at_side (other from) (Comes k))
       (at : slice_get (station_of from (lives steps (outset nb ue))).blocks k ≡ Some block) where
@@ -470,7 +437,7 @@ module _ (l : ℕ) (low : l ≤ 10) (newer : List Group) (now : Group) (past : L
           let first = first_of_it h in
           let one = records.Air (heard_by side) Got h.heard in
           let layouts = kinds (now ∷ past) in
-          let seen = latest histories told [] in
+          let seen = reverse told in
           let last = behind_records histories may_take past layouts seen first (at_told told) in
           let same = same_sending l from (at_told told) j agree in
           let held : (sending_of from last).held ≡ (sending_of from j).held =
@@ -483,7 +450,8 @@ module _ (l : ℕ) (low : l ≤ 10) (newer : List Group) (now : Group) (past : L
           ∙ ap (process_of from) (sym (flight_more h.silent (one ∷ []) sent))
           ∙ air_process from h.heard (heard_by side) (flight_in h.silent sent)
           ∙ subst (λ (z : Side). process_of z (flight_in h.silent sent) ≡ block.process) (back from) h.process_is in
-          ap (λ (i : Journal Histories). sent_parcels (sending_of from i)) (journal_more told first)
+          ap (λ (i : Journal Histories). sent_parcels (sending_of from i))
+          (journal_more l low newer now past none told first)
           ∙ last_as (sending_of from last) (sending_of from j) block.process held process
 
       -- behind all records
@@ -495,7 +463,7 @@ module _ (l : ℕ) (low : l ≤ 10) (newer : List Group) (now : Group) (past : L
       later h =
           let first = first_of_it h in
           let layouts = kinds (now ∷ past) in
-          let seen = latest histories (told ++ first) [] in
+          let seen = reverse (told ++ first) in
           let f = flight_in h.silent sent in
           let leaves : AllByRecursion (LeavesTaking l) h.behind =
           records_leave l f h.behind (subst (AllByRecursion (LeavesIt l)) (sym h.behind_logs)
@@ -509,7 +477,8 @@ module _ (l : ℕ) (low : l ≤ 10) (newer : List Group) (now : Group) (past : L
           ∙ sym (append_assoc told first h.behind) in
           ap running
           (sym (ap (λ (i : Journal Histories). i.flows.acked side l)
-          (ap (λ (all : List Record). at_told all) parts ∙ journal_more (told ++ first) h.behind)
+          (ap (λ (all : List Record). at_told all) parts
+          ∙ journal_more l low newer now past none (told ++ first) h.behind)
           ∙ later_records_leave layouts may_take past seen l side h.behind (at_told (told ++ first)) leaves far))
           ∙ ends side
 

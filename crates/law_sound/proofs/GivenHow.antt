@@ -25,10 +25,11 @@ use Rattle.law_given.proofs.PollFirst.{IsNoExpiry, NoneExpires}
 use Rattle.law_given.proofs.Tied.{calls_of_step}
 use Rattle.law_given.proofs.TiedEnds.{AreFewOwn, own_calls_few}
 use Rattle.law_node.specs.Calls.{Call, Visits, Receive}
+use Rattle.law_run.specs.TwoEnds.Along.{at_side}
 use Rattle.law_run.specs.TwoEnds.Logs.{LogEntry, log_in, log_come, log_at, all_tell, Builds}
 use Rattle.law_node.specs.Telling.{told_of}
 use Rattle.law_deliver.specs.AmChannel.Arrival.{built_in}
-use Rattle.law_sound.specs.BesideLaws.{station_of, at_side}
+use Rattle.law_sound.specs.BesideLaws.{station_of}
 use Rattle.law_sound.proofs.LaterRecords.{TellsOfNoTaking, arrivals_over}
 use Rattle.law_sound.proofs.LoggedEvents.{HearsNone, tells_hear_none}
 

@@ -44,12 +44,12 @@ use Rattle.law_given.proofs.JoinedSteps.{joined_go_on, lives_more, living_front}
 use Rattle.law_given.proofs.Submissions.{submissions_then, all_submitted}
 use Rattle.law_given.proofs.Tied.{AreTied, TiesGoOn, ties_go_on, calls_of_step}
 use Rattle.law_given.proofs.TiedEnds.{ties_side}
-use Rattle.law_run.specs.TwoEnds.Along.{AreAlong}
+use Rattle.law_run.specs.TwoEnds.Along.{AreAlong, at_side}
 use Rattle.law_run.specs.TwoEnds.Logs.{Flight, flight_in, flight_behind, Tells, logged, logged_at, log_at, log_come}
 use Rattle.law_run.specs.TwoEnds.Staying.{AreInLife}
 use Rattle.law_run.proofs.Flowing.{looped_then}
 use Rattle.law_words.specs.Arrivals.{Account, AccountEntry, account}
-use Rattle.law_sound.specs.BesideLaws.{station_of, at_side}
+use Rattle.law_sound.specs.BesideLaws.{station_of}
 use Rattle.law_sound.specs.LivedFails.{HaveComeNew}
 use Rattle.law_sound.proofs.Agreeing.{Agrees}
 use Rattle.law_sound.proofs.GivenBeside.{AreGivenOf, of_both, given_in_quiet, given_in_call}

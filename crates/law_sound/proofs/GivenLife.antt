@@ -49,11 +49,12 @@ use Rattle.law_given.proofs.JoinedSteps.{lives_more}
 use Rattle.law_given.proofs.PollFirst.{NoneExpires}
 use Rattle.law_given.proofs.Tied.{TiesGoOn, ties_go_on, calls_of_step}
 use Rattle.law_given.proofs.TiedEnds.{ties_side}
+use Rattle.law_run.specs.TwoEnds.Along.{at_side}
 use Rattle.law_run.specs.TwoEnds.Logs.{Flight, last_in, logged, log_at}
 use Rattle.law_run.proofs.BearerWalk.{adds_one}
 use Rattle.law_words.specs.Arrivals.{Account, account}
 use Rattle.law_sound.specs.AgreeLaws.{AgreeOn, AnswersAlike, AnswerAlike}
-use Rattle.law_sound.specs.BesideLaws.{ReadRecord, behind_all, station_of, at_side}
+use Rattle.law_sound.specs.BesideLaws.{ReadRecord, behind_all, station_of}
 use Rattle.law_sound.specs.ComingLaws.{TellsFlows}
 use Rattle.law_sound.specs.LivedHistories.{AreLived, Moment}
 use Rattle.law_sound.specs.LoggedRecords.{records_of}
@@ -62,6 +63,7 @@ use Rattle.law_sound.proofs.Agreeing.{Agrees}
 use Rattle.law_sound.proofs.GivenActs.{IsGatheredOn}
 use Rattle.law_sound.proofs.GivenAnswers.{call_answers, none_answer, none_expire, unexpired_answer, step_answered}
 use Rattle.law_sound.proofs.GivenAnswers.{agree_more}
+use Rattle.law_sound.proofs.GivenBeside.{of_both}
 use Rattle.law_sound.proofs.GivenCalls.{submits_all, one_tells}
 use Rattle.law_sound.proofs.GivenComing.{block_read}
 use Rattle.law_sound.proofs.GivenHow.{HowItGoes, Few, Brought, how_it_goes, brought_unexpired}
@@ -222,12 +224,6 @@ module _ (l : ℕ) (low : l ≤ 10) (newer : List Group) (now : Group) (past : L
           loops Ticks side p q = inr (at_ue side p q)
           loops (SetsDiscard ttis) side p q = inr (at_ue side p q)
 
-      both_sides : (P : Side → Type 0) (side : Side) → P side → P (other side) → (z : Side) → P z
-      both_sides P Nb p q Nb = p
-      both_sides P Nb p q Ue = q
-      both_sides P Ue p q Nb = q
-      both_sides P Ue p q Ue = p
-
       brought_answers : (from : Side) (k : ℕ) (block : Block) → s ≡ at_side (other from) (Comes k)
           → slice_get (station_of from air).blocks k ≡ Some block → AnswerAlike l may past (reverse told) x.reads
       brought_answers from k block is at =
@@ -238,7 +234,7 @@ module _ (l : ℕ) (low : l ≤ 10) (newer : List Group) (now : Group) (past : L
 
       answers_by : HowItGoes l air s → AnswerAlike l may past (reverse told) x.reads
       answers_by (Few side (inl quiet) far hears) =
-          none_answers (both_sides (λ (z : Side). calls_of_step l z air (InLife s) ≡ []) side quiet far)
+          none_answers (of_both side (λ (z : Side). calls_of_step l z air (InLife s) ≡ []) quiet far)
       answers_by (Few side (inr one) far hears) = one_answers side one.0 one.1.1 one.1.0 far hears
       answers_by (Brought from k block is at) = brought_answers from k block is at
 

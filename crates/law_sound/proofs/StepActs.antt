@@ -36,12 +36,13 @@ use Rattle.journal_form.proofs.Units.{told_to, all_told, was_right}
 use Rattle.journal_flows.specs.FlowsTold.{Histories, histories}
 use Rattle.journal_flows.specs.Gathering.{Journal, sending_of, behind_record}
 use Rattle.journal_status.specs.RightStatus.{ignored_told}
+use Rattle.law_run.specs.TwoEnds.Along.{at_side}
 use Rattle.law_run.specs.TwoEnds.Logs.{LogEntry, Hears, Flight, flight_behind, logged, logged_at, flight_in}
 use Rattle.law_run.specs.TwoEnds.Logs.{all_tell, log_by, log_come}
 use Rattle.law_run.specs.TwoEnds.Logs.{Builds as EndBuilds}
 use Rattle.law_run.specs.TwoEnds.SenderLog.{BearerEntry, bearer_logs}
 use Rattle.law_sound.specs.BesideLaws.{ReadRecord, behind_all, IsGatheredBehind, IsSentLast, IsNamed}
-use Rattle.law_sound.specs.BesideLaws.{station_of, at_side, bearer_at, RecordsOfAct, AreRecordsOf, octets_of}
+use Rattle.law_sound.specs.BesideLaws.{station_of, bearer_at, RecordsOfAct, AreRecordsOf, octets_of}
 use Rattle.law_sound.specs.BesideSteps.{OfAct, OfComing, OfBuilding}
 use Rattle.law_sound.specs.LoadLaws.{name_of}
 use Rattle.law_sound.specs.LivedHistories.{Moment, coming_in}

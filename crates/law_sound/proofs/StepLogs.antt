@@ -43,13 +43,14 @@ use Rattle.journal_form.specs.Checking.{Building}
 use Rattle.journal_form.proofs.Units.{told_to}
 use Rattle.journal_flows.specs.FlowsTold.{Histories, histories}
 use Rattle.journal_flows.specs.Gathering.{Journal, Sending, behind_record}
+use Rattle.law_run.specs.TwoEnds.Along.{at_side}
 use Rattle.law_run.specs.TwoEnds.ChannelLog.{on_channel, parted, HasRoom}
 use Rattle.law_run.specs.TwoEnds.Logs.{log_in, log_by, log_at, log_over}
 use Rattle.law_run.specs.TwoEnds.SenderLog.{bearer_logs}
 use Rattle.law_run.proofs.ChannelLogs.{sides_log_their_calls}
 use Rattle.law_run.proofs.Modes.{keeps_mode}
 use Rattle.law_sound.specs.BesideLaws.{ReadRecord, behind_all}
-use Rattle.law_sound.specs.BesideLaws.{tells_flow, LeavesFlows, station_of, at_side, bearer_at}
+use Rattle.law_sound.specs.BesideLaws.{tells_flow, LeavesFlows, station_of, bearer_at}
 use Rattle.law_sound.specs.CarriedLaws.{parcels_on, parcels_of}
 use Rattle.law_sound.specs.HeldLaws.{AreHeldAs, held_parcels}
 use Rattle.law_sound.specs.LivedFails.{HasComeNew, HaveComeNew}

@@ -28,12 +28,13 @@ use Rattle.journal_form.specs.Checking.{Building, ends}
 use Rattle.journal_form.proofs.Units.{all_told, complete, sound}
 use Rattle.journal_flows.specs.FlowsTold.{Histories}
 use Rattle.journal_flows.specs.Gathering.{Journal, sending_of}
+use Rattle.law_run.specs.TwoEnds.Along.{at_side}
 use Rattle.law_run.specs.TwoEnds.Logs.{LogEntry, Hears, Flight, process_of, flight_behind, logged, logged_at, flight_in}
 use Rattle.law_run.specs.TwoEnds.Logs.{all_tell, log_by, log_at, log_of, log_come}
 use Rattle.law_run.specs.TwoEnds.Logs.{Builds as EndBuilds}
 use Rattle.law_run.specs.TwoEnds.Staying.{AreInLife}
 use Rattle.law_sound.specs.BesideLaws.{behind_all}
-use Rattle.law_sound.specs.BesideLaws.{station_of, at_side, octets_of}
+use Rattle.law_sound.specs.BesideLaws.{station_of, octets_of}
 use Rattle.law_sound.specs.BesideSteps.{OfTti}
 use Rattle.law_sound.specs.LivedHistories.{AreLived, Moment, GoOver}
 use Rattle.law_sound.specs.StepReading.{HasCountOn, IsRead}

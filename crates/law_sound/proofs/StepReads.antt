@@ -26,11 +26,12 @@ use Rattle.journal_form.proofs.Units.{all_told}
 use Rattle.journal_flows.specs.FlowsTold.{Histories, histories}
 use Rattle.journal_flows.specs.Gathering.{Journal, sending_of, sent_last, behind_record}
 use Rattle.journal_status.specs.RightStatus.{ignored_told}
+use Rattle.law_run.specs.TwoEnds.Along.{at_side}
 use Rattle.law_run.specs.TwoEnds.ChannelLog.{on_channel, parted}
 use Rattle.law_run.specs.TwoEnds.Logs.{LogEntry, Flight, logged}
 use Rattle.law_run.specs.TwoEnds.Logs.{log_at}
 use Rattle.law_sound.specs.BesideLaws.{ReadRecord, behind_all, IsGatheredBeside, IsGatheredBehind}
-use Rattle.law_sound.specs.BesideLaws.{station_of, at_side, octets_of}
+use Rattle.law_sound.specs.BesideLaws.{station_of, octets_of}
 use Rattle.law_sound.specs.BesideSteps.{AreOfStep}
 use Rattle.law_sound.specs.IgnoredLaws.{told_ignored}
 use Rattle.law_sound.specs.LivedFails.{HasComeNew, HaveComeNew}

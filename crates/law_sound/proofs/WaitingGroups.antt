@@ -66,6 +66,7 @@ use Rattle.law_node.specs.Calls.{Call, Move, Submit, run_end}
 use Rattle.law_node.specs.Holding.{flow}
 use Rattle.law_node.proofs.Queueing.{waits_in}
 use Rattle.law_run.specs.Order.{IsRight, KeepsOrder}
+use Rattle.law_run.specs.TwoEnds.Along.{at_side}
 use Rattle.law_run.specs.TwoEnds.Lived.{IsAcknowledged}
 use Rattle.law_run.specs.TwoEnds.On.{IsOn}
 use Rattle.law_run.proofs.BearerWalk.{adds_one, comes}
@@ -78,7 +79,7 @@ use Rattle.law_run.specs.TwoEnds.Along.{AreAlong}
 use Rattle.law_run.specs.TwoEnds.Logs.{Flight, flight_in, no_flight}
 use Rattle.law_run.specs.TwoEnds.Staying.{AreInLife}
 use Rattle.law_sound.specs.AgreeLaws.{AgreeOn, AnswerAlike}
-use Rattle.law_sound.specs.BesideLaws.{ReadRecord, behind_all, at_side}
+use Rattle.law_sound.specs.BesideLaws.{ReadRecord, behind_all}
 use Rattle.law_sound.specs.LivedFails.{HaveComeNew}
 use Rattle.law_sound.specs.LivedHistories.{Moment}
 use Rattle.law_sound.specs.LoggedRecords.{records_of}

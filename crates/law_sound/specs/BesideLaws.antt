@@ -35,11 +35,12 @@ use Rattle.journal_flows.specs.FlowsTold.{Histories, histories}
 use Rattle.journal_flows.specs.Gathering.{Journal, Sending, sending_of, behind_record}
 use Rattle.journal_flows.specs.Gathering.{behind_new, behind_landing, behind_line, behind_end}
 use Rattle.law_deliver.specs.AmChannel.Lives.{Moves, lives_on}
-use Rattle.law_deliver.specs.AmFlow.Air.{Block, Station, Air, Act, Comes, Step, AtNb, AtUe, Passes}
+use Rattle.law_deliver.specs.AmFlow.Air.{Block, Station, Air, Act, Comes, Step, Passes}
 use Rattle.law_deliver.specs.AmFlow.Air.{happens, outset, IsDone}
 use Rattle.law_deliver.specs.AmFlow.Carrying.{CarriedPdu, Carried, Builds, behind_step}
 use Rattle.law_deliver.specs.AmFlow.Carrying.{carries_none}
 use Rattle.law_deliver.specs.AmFlow.Links.{AreFlowsOn}
+use Rattle.law_run.specs.TwoEnds.Along.{at_side}
 use Rattle.law_run.specs.TwoEnds.ChannelLog.{told_in, written_in}
 use Rattle.law_run.specs.TwoEnds.SenderLog.{BearerEntry}
 use Rattle.law_sound.specs.GatherLaws.{HasCount}
@@ -136,10 +137,6 @@ pub record AreRecordsOf (kinds : List (Option Layout)) (l : ℕ) (side : Side) (
 abbrev pub station_of : Side → Air → Station
 station_of Nb a = a.nb
 station_of Ue a = a.ue
-
-abbrev pub at_side : Side → Act → Step
-at_side Nb x = AtNb x
-at_side Ue x = AtUe x
 
 abbrev pub bearer_at : (side : Side) (l : ℕ) (nb ue : State) (a : Air) → AreFlowsOn l nb ue a
     → State

@@ -12,8 +12,9 @@ use Rattle.journal_flows.specs.FlowsTold.{Histories}
 use Rattle.journal_flows.specs.Gathering.{Journal, sending_of}
 use Rattle.law_deliver.specs.AmFlow.Air.{Block, Air, Act, Comes, Step, Passes, IsDone}
 use Rattle.law_deliver.specs.AmFlow.Carrying.{Carried, Builds}
+use Rattle.law_run.specs.TwoEnds.Along.{at_side}
 use Rattle.law_sound.specs.BesideLaws.{IsGatheredBeside, IsGatheredBehind, ReadRecord, behind_all}
-use Rattle.law_sound.specs.BesideLaws.{station_of, at_side, RecordsOfAct, IsSentLast, octets_of}
+use Rattle.law_sound.specs.BesideLaws.{station_of, RecordsOfAct, IsSentLast, octets_of}
 use Rattle.law_sound.specs.BesideLaws.{IsNamed}
 use Rattle.law_sound.specs.LivedHistories.{AreLived, coming_in}
 
