@@ -1,0 +1,171 @@
+-- What `send` records name behind the last new block is gathered beside flows as it is where PDUs are checked.
+use Rattle.std.proofs.Common.{◌≡◌, ℕ, Bool, true, false, if◌then◌else◌, List, [], ◌∷◌, ◌++◌, Option, Some, None}
+use Rattle.std.proofs.Common.{refl, ap, sym, ◌∙◌}
+use Rattle.std.proofs.lemmas.List.{map-append}
+use Rattle.l2_types.specs.declared.side.Side.{Side}
+use Rattle.l2_types.specs.declared.side.Side.TheVariants.{Nb, Ue}
+use Rattle.mac_pdu.specs.declared.builder.Sdu.{Sdu}
+use Rattle.mac_pdu.specs.declared.item.Direction.TheVariants as directions
+use Rattle.mac_pdu.specs.Reading.{reading}
+use Rattle.bearer_types.specs.declared.event.Event.{Event}
+use Rattle.bearer_types.specs.declared.event.Event.TheVariants as events
+use Rattle.bearer_types.specs.Sides.{is_same, sender_of}
+use Rattle.air_record.specs.declared.record.Arrived.TheVariants as arrived
+use Rattle.air_record.specs.declared.record.Record.{Record}
+use Rattle.air_record.specs.declared.record.Record.TheVariants as records
+use Rattle.air_record.specs.declared.submission.Submission.{Submission}
+use Rattle.air_record.specs.Submissions.{unrefused}
+use Rattle.pdu_show.specs.declared.kinds.Layout.{Layout}
+use Rattle.journal_flows.specs.declared.sending.Named.{Named}
+use Rattle.journal_flows.specs.FlowsTold.{Histories}
+use Rattle.journal_flows.specs.Gathering.{Gatherer, Journal, sending_of, sdus_read, behind_event}
+use Rattle.journal_flows.specs.Gathering.{behind_record}
+use Rattle.journal_given.specs.Supplies as given
+use Rattle.journal_sent.specs.declared.checker.NamedPdu.{NamedPdu}
+use Rattle.journal_sent.specs.declared.checker.PassedSdu.{PassedSdu}
+use Rattle.journal_sent.specs.SentPdus.{histories}
+use Rattle.journal_sent.specs.SentFlows.{flow_submitted}
+use Rattle.journal_sent.specs.Sending.{Flows, flow_at, with_flows, changed_on, flows_of, judged, is_known, lcid_in}
+use Rattle.journal_sent.specs.Sending.{passed_to, named_of, with_named, event_told, pdu_told_by, acked_at, pdu_told}
+use Rattle.journal_sent.specs.Sending.{pdus_told, tells, submits_own, released, settled}
+use Rattle.journal_sent.specs.Sending.{after_record}
+use Rattle.journal_sent.specs.RightSent.{Flow, AllSent, Given}
+use Rattle.law_sent.specs.Channels.{as_named, AreNamedAlike}
+
+-- what a record leaves named on a side
+abbrev named_by : Side → Record → List Named → List Named
+named_by side (records.Of at (events.Send lcid how sn)) named =
+    if is_same at side then named ++ record { lcid = lcid; how = how } ∷ [] else named
+named_by side (records.Block direction process true version octets) named =
+    if is_same (sender_of direction) side then [] else named
+named_by side one named = named
+
+-- ---- beside flows
+
+module _ {F : Type 0} (g : Gatherer F) (kinds : List (Option Layout)) (more : Bool) where
+  event_gathered : (at side : Side) (event : Event) (j : Journal F)
+      → (sending_of side (behind_event g kinds more at event j)).named
+      ≡ named_by side (records.Of at event) (sending_of side j).named
+  event_gathered Nb Nb (events.Send lcid how sn) j = refl
+  event_gathered Nb Ue (events.Send lcid how sn) j = refl
+  event_gathered Ue Nb (events.Send lcid how sn) j = refl
+  event_gathered Ue Ue (events.Send lcid how sn) j = refl
+  event_gathered at Nb event j = refl
+  event_gathered at Ue event j = refl
+
+  record_gathered : (side : Side) (one : Record) (j : Journal F)
+      → (sending_of side (behind_record g kinds more one j)).named ≡ named_by side one (sending_of side j).named
+  record_gathered side (records.Of at event) j = event_gathered at side event j
+  record_gathered Nb (records.Block directions.Down process true version octets) j = refl
+  record_gathered Ue (records.Block directions.Down process true version octets) j = refl
+  record_gathered Nb (records.Block directions.Up process true version octets) j = refl
+  record_gathered Ue (records.Block directions.Up process true version octets) j = refl
+  record_gathered Nb (records.Block directions.Down process false version octets) j = refl
+  record_gathered Ue (records.Block directions.Down process false version octets) j = refl
+  record_gathered Nb (records.Block directions.Up process false version octets) j = refl
+  record_gathered Ue (records.Block directions.Up process false version octets) j = refl
+  record_gathered Nb (records.Air direction arrived.Got heard) j = refl
+  record_gathered Ue (records.Air direction arrived.Got heard) j = refl
+  record_gathered side (records.Air direction what heard) j = refl
+  record_gathered side one j = refl
+
+-- ---- where PDUs are checked
+
+flows_name : (at side : Side) (fs : Flows _) (s : AllSent) → named_of side (with_flows at fs s) ≡ named_of side s
+flows_name Nb Nb fs s = refl
+flows_name Nb Ue fs s = refl
+flows_name Ue Nb fs s = refl
+flows_name Ue Ue fs s = refl
+
+-- an SDU is submitted
+own_names : (o : Option Submission) (side : Side) (s : AllSent) → named_of side (submits_own o s) ≡ named_of side s
+own_names None side s = refl
+own_names (Some d) side s =
+    flows_name d.side side (changed_on d.lcid (flow_submitted d.octets) (flows_of d.side s)) s
+
+pub released_names : (o : Option Submission) (side : Side) (s : AllSent)
+    → named_of side (released o s) ≡ named_of side s
+released_names o Nb s = own_names o Nb (record s { submitted = None })
+released_names o Ue s = own_names o Ue (record s { submitted = None })
+
+pub settled_names : (one : Record) (side : Side) (s : AllSent) → named_of side (settled one s) ≡ named_of side s
+settled_names one side s = released_names (unrefused one s.submitted) side s
+
+one_more : (named : List NamedPdu) (n : NamedPdu)
+    → as_named (named ++ n ∷ []) ≡ as_named named ++ record { lcid = n.lcid; how = n.how } ∷ []
+one_more named n = map-append (λ (m : NamedPdu). record { lcid = m.lcid; how = m.how }) named (n ∷ [])
+
+event_named : (at side : Side) (event : Event) (j : Given) (p : Option PassedSdu) (s : AllSent)
+    → as_named (named_of side (event_told histories given.histories at event j p s))
+    ≡ named_by side (records.Of at event) (as_named (named_of side s))
+event_named Nb Nb (events.Send lcid how sn) j p s =
+    one_more s.named_nb (record { lcid = lcid; how = how; sdu = passed_to Nb lcid p })
+event_named Nb Ue (events.Send lcid how sn) j p s = refl
+event_named Ue Nb (events.Send lcid how sn) j p s = refl
+event_named Ue Ue (events.Send lcid how sn) j p s =
+    one_more s.named_ue (record { lcid = lcid; how = how; sdu = passed_to Ue lcid p })
+event_named Nb Nb event j p s = refl
+event_named Nb Ue event j p s = refl
+event_named Ue Nb event j p s = refl
+event_named Ue Ue event j p s = refl
+
+-- the PDUs of a block
+pdu_names : (at side : Side) (acked : ℕ → Bool) (n : NamedPdu) (d : Sdu) (o : Option Flow) (s : AllSent)
+    → named_of side (pdu_told_by histories at acked n d o s) ≡ named_of side s
+pdu_names at side acked n d None s = refl
+pdu_names Nb Nb acked n d (Some f) s = refl
+pdu_names Nb Ue acked n d (Some f) s = refl
+pdu_names Ue Nb acked n d (Some f) s = refl
+pdu_names Ue Ue acked n d (Some f) s = refl
+
+pdus_name : (at side : Side) (j : Given) (named : List NamedPdu) (sdus : List Sdu) (s : AllSent)
+    → named_of side (pdus_told histories at j named sdus s) ≡ named_of side s
+pdus_name at side j [] sdus s = refl
+pdus_name at side j (n ∷ named) [] s = refl
+pdus_name at side j (n ∷ named) (d ∷ sdus) s =
+    pdus_name at side j named sdus (pdu_told histories at j n d s)
+    ∙ pdu_names at side (acked_at at d.lcid j) n d (flow_at d.lcid (flows_of at s)) s
+
+unnamed : (at side : Side) (s : AllSent)
+    → as_named (named_of side (with_named at [] s)) ≡ (if is_same at side then [] else as_named (named_of side s))
+unnamed Nb Nb s = refl
+unnamed Nb Ue s = refl
+unnamed Ue Nb s = refl
+unnamed Ue Ue s = refl
+
+tells_named : (side : Side) (one : Record) (j : Given) (p : Option PassedSdu) (s : AllSent)
+    → as_named (named_of side (tells histories given.histories one j p s))
+    ≡ named_by side one (as_named (named_of side s))
+tells_named Nb (records.Of at event) j p s = event_named at Nb event j p (judged (is_known (lcid_in event) s) s)
+tells_named Ue (records.Of at event) j p s = event_named at Ue event j p (judged (is_known (lcid_in event) s) s)
+tells_named side (records.Block direction process true version octets) j p s =
+    let from = sender_of direction in
+    ap as_named
+    (pdus_name from side j (named_of from s) (sdus_read (reading direction octets)) (with_named from [] s))
+    ∙ unnamed from side s
+tells_named side (records.Block direction process false version octets) j p s = refl
+tells_named Nb (records.Looped lcid octets) j p s = refl
+tells_named Ue (records.Looped lcid octets) j p s = refl
+tells_named Nb (records.Refused at lcid why) j p s = refl
+tells_named Ue (records.Refused at lcid why) j p s = refl
+tells_named side one j p s = refl
+
+record_named : (side : Side) (one : Record) (j : Given) (s : AllSent)
+    → as_named (named_of side (after_record histories given.histories one j s))
+    ≡ named_by side one (as_named (named_of side s))
+record_named side one j s =
+    tells_named side one j (settled one s).passed (record (settled one s) { passed = None })
+    ∙ ap (λ (named : List NamedPdu). named_by side one (as_named named)) (by side)
+  where
+    by : (x : Side) → named_of x (record (settled one s) { passed = None }) ≡ named_of x s
+    by Nb = released_names (unrefused one s.submitted) Nb s
+    by Ue = released_names (unrefused one s.submitted) Ue s
+
+-- ---- both
+
+pub named_alike_records : (g : Gatherer Histories) (kinds : List (Option Layout)) (more : Bool) (one : Record)
+    (given' : Given) (j : Journal Histories) (s : AllSent) → AreNamedAlike j s
+    → AreNamedAlike (behind_record g kinds more one j) (after_record histories given.histories one given' s)
+named_alike_records g kinds more one given' j s h side =
+    record_gathered g kinds more side one j ∙ ap (named_by side one) (h side)
+    ∙ sym (record_named side one given' s)

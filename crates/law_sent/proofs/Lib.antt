@@ -1,0 +1,9 @@
+pub mod SenderMarks
+pub mod SenderStreams
+pub mod Senders
+pub mod ChannelsFlows
+pub mod ChannelsNamed
+pub mod ChannelsBlocks
+pub mod ChannelsStay
+pub mod Channels
+pub mod ChannelsKinds

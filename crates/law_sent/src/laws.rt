@@ -1,0 +1,22 @@
+ghost use Rattle.law_sent.specs.Channels.{RecordsGoAlone, BlocksAreRightByChannel, LinesGoAlone};
+ghost use Rattle.law_sent.specs.Channels.{BearersBegin, GroupsEndAlone};
+ghost use Rattle.law_sent.specs.Senders.{OffersGoOn, SendersWriteRightly};
+
+/// Over any calls, what an acknowledged sender writes is right as a checker of journals asks it:
+/// each new PDU carries the octets that come next of what RLC was given, each that is sent again
+/// octets of its number, and their headers say where SDUs begin and end. So the octets and marks of
+/// its history go on as a checker gathers them.
+pub fn senders_write_rightly()
+    ensures offers { OffersGoOn }
+    ensures writes { SendersWriteRightly }
+{}
+
+/// What is kept of a channel of acknowledged data while the PDUs of a journal are checked goes on
+/// by the records of the channel alone, and a new block is right where it is so on each channel.
+pub fn channels_go_alone()
+    ensures records { RecordsGoAlone }
+    ensures blocks { BlocksAreRightByChannel }
+    ensures lines { LinesGoAlone }
+    ensures begins { BearersBegin }
+    ensures ends { GroupsEndAlone }
+{}

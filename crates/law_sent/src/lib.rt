@@ -1,0 +1,8 @@
+//! What is sent of acknowledged data is right as the checker of a journal asks it: the PDUs that an
+//! acknowledged sender writes, and what is kept of a channel while they are checked. Each function
+//! does nothing: its contract is the law.
+#![tactic(auto)]
+
+mod laws;
+
+pub use laws::{channels_go_alone, senders_write_rightly};
