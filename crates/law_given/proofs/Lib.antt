@@ -20,10 +20,13 @@ pub mod Supplying
 pub mod SupplyConfirming
 pub mod SupplyLives
 pub mod SupplyQuiet
+pub mod SupplyPdus
+pub mod SupplyPdusKept
 pub mod Submissions
 pub mod Joined
 pub mod JoinedReports
 pub mod SayingReports
+pub mod SupplyPdusSpelled
 pub mod SayingCounts
 pub mod JoinedSteps
 pub mod JoinedLasting

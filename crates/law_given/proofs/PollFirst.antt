@@ -1,6 +1,6 @@
 -- A bearer's own call tells first, if at all, that t-PollRetransmit expires.
-use Rattle.std.proofs.Common.{◌≡◌, ℕ, ◌-◌, ◌%◌, Bool, true, false, if◌then◌else◌, nat_lt, List, [], ◌∷◌, ◌++◌, length}
-use Rattle.std.proofs.Common.{Option, Some, None, Result, Ok, Err, refl, subst}
+use Rattle.std.proofs.Common.{ℕ, ◌-◌, ◌%◌, Bool, true, false, if◌then◌else◌, nat_lt, List, [], ◌∷◌, ◌++◌, length}
+use Rattle.std.proofs.Common.{Option, Some, None, Result, Ok, Err}
 use Rattle.std.specs.List.{AllByRecursion}
 use Rattle.bearer_types.specs.declared.Event.{Event}
 use Rattle.bearer_types.specs.declared.Event.TheVariants as events
@@ -67,15 +67,6 @@ none-first (x ∷ xs) h = h.1
 first-then : (xs ys : List Event) → OnlyFirst xs → NoneExpires ys → OnlyFirst (xs ++ ys)
 first-then [] ys h k = none-first ys k
 first-then (x ∷ xs) ys h k = none-then xs ys h k
-
-none-among : (pre post : List Event) (lcid : ℕ) → NoneExpires (pre ++ events.Expired lcid Poll ∷ post) → ⊥
-none-among [] post lcid h = h.0
-none-among (x ∷ pre) post lcid h = none-among pre post lcid h.1
-
-first-is : (told pre post : List Event) (lcid : ℕ) → OnlyFirst told → told ≡ pre ++ events.Expired lcid Poll ∷ post
-    → pre ≡ []
-first-is told [] post lcid h is = refl
-first-is told (x ∷ pre) post lcid h is = absurd (none-among pre post lcid (subst OnlyFirst is h))
 
 -- ---- a bearer writes
 
@@ -248,7 +239,3 @@ call-first b (Arrive pdu) own = absurd own
 call-first b (Expire clock) own = expiry-first clock b
 call-first b Tick own = tti-first b
 call-first b (SetDiscard ttis) own = tt
-
-pub poll_first : (b : State) (c : Call) (lcid : ℕ) (pre post : List Event) → IsOwn c
-    → tells b c ≡ pre ++ events.Expired lcid Poll ∷ post → pre ≡ []
-poll_first b c lcid pre post own is = first-is (tells b c) pre post lcid (call-first b c own) is

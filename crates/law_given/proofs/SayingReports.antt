@@ -154,7 +154,7 @@ not_seven : (bits : ℕ) → IsKind (Am bits) → bits ≢ 7
 not_seven bits (inl e) = λ q. absurd (omega (arith, e, q))
 not_seven bits (inr e) = λ q. absurd (omega (arith, e, q))
 
-report_read : (r : Receiving) (bits : ℕ) → r.kind ≡ Am bits → IsKind (Am bits)
+pub report_read : (r : Receiving) (bits : ℕ) → r.kind ≡ Am bits → IsKind (Am bits)
     → user_at bits (report r) ≡ Ok (Report (r.next % 2 ^ bits) (bits_held r))
 unfolding report
 report_read r bits am is =
@@ -211,11 +211,11 @@ way_of d = record {
   steps = d.steps;
 }
 
-record EndsHolding (bits first : ℕ) (f : Flow) : Type 0 where
-  kind : (ended f).receiver.kind ≡ Am bits
-  holds : HoldsThoseCome (ended f).handed first (ended f).receiver
+pub record EndsHolding (bits first : ℕ) (f : Flow) : Type 0 where
+  pub kind : (ended f).receiver.kind ≡ Am bits
+  pub holds : HoldsThoseCome (ended f).handed first (ended f).receiver
 
-ends_holding : (bits : ℕ) (f : Flow) → IsSound bits f → EndsHolding bits f.first f
+pub ends_holding : (bits : ℕ) (f : Flow) → IsSound bits f → EndsHolding bits f.first f
 ends_holding bits f h =
     let s = f.sender in
     let pdus = drop f.passed f.stream in

@@ -221,7 +221,7 @@ owed-owes None x e = again-owes x.again x e
 owed-owes (Some report) x e = refl
 
 -- no report is owed behind it
-owes-none : (x : Sending) → (took x).owed ≡ None
+pub owes-none : (x : Sending) → (took x).owed ≡ None
 unfolding took
 owes-none x = owed-owes x.owed x refl
 

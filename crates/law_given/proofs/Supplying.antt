@@ -1,7 +1,7 @@
 -- What each call of a bearer tells is gathered beside what it makes of PDCP's sender.
 use Rattle.std.proofs.Common.{◌≡◌, ◌≤◌, ℕ, zero, suc, ◌-◌, ◌%◌, Bool, true, false, if◌then◌else◌, nat_lt, List, [], ◌∷◌}
 use Rattle.std.proofs.Common.{◌++◌, length, map, take, drop, Option, Some, option_map, slice_get, refl, ap, sym, ◌∙◌}
-use Rattle.std.proofs.Common.{subst, arith, append_assoc}
+use Rattle.std.proofs.Common.{subst, arith, append_assoc, append-nil}
 use Rattle.std.specs.Prelude.{option_to_list}
 use Rattle.std.specs.List.{AllByRecursion}
 use Rattle.bearer_types.specs.declared.Event.{Event}
@@ -79,7 +79,7 @@ quiet-right (events.Report lcid fms bitmap) s q = absurd q
 quiet-right (events.Discard lcid len) s q = absurd q
 quiet-right event s q = tt
 
-pub quiet-then : (xs ys : List Event) → AreQuiet xs → AreQuiet ys → AreQuiet (xs ++ ys)
+quiet-then : (xs ys : List Event) → AreQuiet xs → AreQuiet ys → AreQuiet (xs ++ ys)
 quiet-then [] ys h k = k
 quiet-then (x ∷ xs) ys h k = (h.0, quiet-then xs ys h.1 k)
 
@@ -100,6 +100,14 @@ more-quiet : (p : Progress) (x : Sending) (xs ys : List Event) (s : Supply Histo
     → Went p x (xs ++ ys) s
 more-quiet p x xs ys s q h = went-then p p x x xs ys s h (quiet-went p x ys (supplied_all xs s) q h.supplied)
 
+more-nothing : (p : Progress) (x : Sending) (told : List Event) (s : Supply History) → Went p x told s
+    → Went (with_offered [] p) x told s
+more-nothing p x told s h = record {
+  supplied = nothing-more p x (supplied_all told s) h.supplied;
+  right = h.right;
+  bits = h.bits;
+}
+
 -- ---- RLC takes what PDCP has
 
 fed-went : (p : Progress) (w : Work) (s : Supply History) → IsKind (AmKind s.bits) → w.pdcp.kind ≡ AmKind s.bits
@@ -119,14 +127,14 @@ fed-kind : (w : Work) → (fed w).pdcp.kind ≡ w.pdcp.kind
 unfolding after_pdcp
 fed-kind w = refl
 
-fed-sender : (w : Work) → (fed w).pdcp.tx ≡ took w.pdcp.tx
+pub fed-sender : (w : Work) → (fed w).pdcp.tx ≡ took w.pdcp.tx
 unfolding after_pdcp
 fed-sender w = refl
 
 -- a sender that spells PDUs as another
-record SpellsAs (x y : Sending) : Type 0 where
-  kind : x.kind ≡ y.kind
-  protection : x.protection ≡ y.protection
+pub record SpellsAs (x y : Sending) : Type 0 where
+  pub kind : x.kind ≡ y.kind
+  pub protection : x.protection ≡ y.protection
 
 spells-on : (w : Work) (x : Sending) → SpellsAs w.pdcp.tx x → SpellsAs (fed w).pdcp.tx x
 spells-on w x h =
@@ -147,53 +155,45 @@ next-is x y o os q h =
     ap (λ (l : List Offer). option_to_list (option_map (pdu_of x) (slice_get l 0))) q
     ∙ ap (λ (pdu : List ℕ). pdu ∷ []) (spelled-alike x y o h)
 
--- so many of what may be taken
-record Fed (os : List Offer) (p : Progress) (x : Sending) (v : Work) (s : Supply History) : Type 0 where
-  n : ℕ
-  few : n ≤ length os
-  left : offers v.pdcp.tx ≡ drop n os
-  went : Went (with_offered (map (pdu_of x) (take n os)) p) v.pdcp.tx v.events s
+-- what holds of the work and of the PDUs that RLC was given so far, where it goes on as RLC takes one more
+module _ (Holds : Work → List (List ℕ) → Type 0) (x : Sending)
+    (goes-on : (w : Work) (l : List (List ℕ)) → SpellsAs w.pdcp.tx x → Holds w l
+    → Holds (fed w) (l ++ next-offered w.pdcp.tx)) where
+  -- so many of what may be taken
+  record Fed (os : List Offer) (before : List (List ℕ)) (v : Work) : Type 0 where
+    n : ℕ
+    few : n ≤ length os
+    left : offers v.pdcp.tx ≡ drop n os
+    holds : Holds v (before ++ map (pdu_of x) (take n os))
 
-none-fed : (os : List Offer) (p : Progress) (x : Sending) (w : Work) (s : Supply History) → offers w.pdcp.tx ≡ os
-    → Went p w.pdcp.tx w.events s → Fed os p x w s
-none-fed os p x w s q h = record {
-  n = zero;
-  few = omega arith;
-  left = q;
-  went = record {
-    supplied = nothing-more p w.pdcp.tx (supplied_all w.events s) h.supplied;
-    right = h.right;
-    bits = h.bits;
-  };
-}
+  none-fed : (os : List Offer) (before : List (List ℕ)) (w : Work) → offers w.pdcp.tx ≡ os → Holds w before
+      → Fed os before w
+  none-fed os before w q h =
+      record { n = zero; few = omega arith; left = q; holds = subst (Holds w) (sym (append-nil before)) h }
 
-one-fed : (o : Offer) (os : List Offer) (p : Progress) (x : Sending) (v : Work) (s : Supply History)
-    → Fed os (with_offered (pdu_of x o ∷ []) p) x v s → Fed (o ∷ os) p x v s
-one-fed o os p x v s h = record {
-  n = suc h.n;
-  few = omega (arith, h.few);
-  left = h.left;
-  went = subst (λ (l : List (List ℕ)). Went (record p { offered = l }) v.pdcp.tx v.events s)
-      (append_assoc p.offered (pdu_of x o ∷ []) (map (pdu_of x) (take h.n os))) h.went;
-}
+  one-fed : (o : Offer) (os : List Offer) (before : List (List ℕ)) (v : Work)
+      → Fed os (before ++ pdu_of x o ∷ []) v → Fed (o ∷ os) before v
+  one-fed o os before v h = record {
+    n = suc h.n;
+    few = omega (arith, h.few);
+    left = h.left;
+    holds = subst (Holds v) (append_assoc before (pdu_of x o ∷ []) (map (pdu_of x) (take h.n os))) h.holds;
+  }
 
-feeds-went : (os : List Offer) (size : ℕ) (held : Option ℕ) (p : Progress) (x : Sending) (w : Work)
-    (s : Supply History) → IsKind (AmKind s.bits) → w.pdcp.kind ≡ AmKind s.bits → x.kind ≡ AmKind s.bits
-    → SpellsAs w.pdcp.tx x → offers w.pdcp.tx ≡ os → Went p w.pdcp.tx w.events s
-    → Fed os p x (feeds os size held w) s
-feeds-went [] size held p x w s bits kind k same q h = none-fed [] p x w s q h
-feeds-went (o ∷ os) size held p x w s bits kind k same q h =
-    by (hungry w.tx size held)
-    (feeds-went os size held (with_offered (pdu_of x o ∷ []) p) x (fed w) s bits (fed-kind w ∙ kind) k
-    (spells-on w x same) (ap offers (fed-sender w) ∙ left_of 1 w.pdcp.tx ∙ ap (drop 1) q)
-    (subst (λ (l : List (List ℕ)). Went (with_offered l p) (fed w).pdcp.tx (fed w).events s)
-    (next-is w.pdcp.tx x o os q same)
-    (fed-went p w s bits kind (same.kind ∙ k) h)))
-  where
-    by : (b : Bool) → Fed os (with_offered (pdu_of x o ∷ []) p) x (feeds os size held (fed w)) s
-        → Fed (o ∷ os) p x (if b then feeds os size held (fed w) else w) s
-    by true g = one-fed o os p x (feeds os size held (fed w)) s g
-    by false g = none-fed (o ∷ os) p x w s q h
+  feeds-fed : (os : List Offer) (size : ℕ) (held : Option ℕ) (before : List (List ℕ)) (w : Work)
+      → SpellsAs w.pdcp.tx x → offers w.pdcp.tx ≡ os → Holds w before → Fed os before (feeds os size held w)
+  feeds-fed [] size held before w same q h = none-fed [] before w q h
+  feeds-fed (o ∷ os) size held before w same q h =
+      by (hungry w.tx size held)
+      (feeds-fed os size held (before ++ pdu_of x o ∷ []) (fed w) (spells-on w x same)
+      (ap offers (fed-sender w) ∙ left_of 1 w.pdcp.tx ∙ ap (drop 1) q)
+      (subst (λ (l : List (List ℕ)). Holds (fed w) (before ++ l)) (next-is w.pdcp.tx x o os q same)
+      (goes-on w before same h)))
+    where
+      by : (b : Bool) → Fed os (before ++ pdu_of x o ∷ []) (feeds os size held (fed w))
+          → Fed (o ∷ os) before (if b then feeds os size held (fed w) else w)
+      by true g = one-fed o os before (feeds os size held (fed w)) g
+      by false g = none-fed (o ∷ os) before w q h
 
 status-quiet : (lcid sn : ℕ) (has due : Bool)
     → AreQuiet (if due then events.Send lcid how.Status sn ∷ prohibit_told lcid has else [])
@@ -201,7 +201,7 @@ status-quiet lcid sn true true = (tt, (tt, tt))
 status-quiet lcid sn false true = (tt, tt)
 status-quiet lcid sn has false = tt
 
-data-quiet : (lcid : ℕ) (t : Taken) → AreQuiet (data_told lcid t)
+pub data-quiet : (lcid : ℕ) (t : Taken) → AreQuiet (data_told lcid t)
 data-quiet lcid (Piece number first polled octets) = (tt, by polled)
   where
     by : (polled : Bool) → AreQuiet (polled_told lcid polled)
@@ -222,24 +222,59 @@ offered-are b share held n few q =
     (sym (taken_off n (offers b.pdcp.tx) (offers (after_taking b share held).pdcp.tx) few
     (ap (λ (e : Ends). offers e.tx) (behind_as b share held) ∙ q)))
 
+-- a STATUS PDU that is due is written before any data
+abbrev pub begun : State → ℕ → Work
+begun b share = work b.pdcp b.tx (status_told b.pdcp.lcid (has_prohibit b) b.rx share)
+
+pub begun-quiet : (b : State) (share : ℕ) → AreQuiet (begun b share).events
+begun-quiet b share =
+    status-quiet b.pdcp.lcid (ack b.rx (share - 3) % 1024) (has_prohibit b) (writes_status b.rx share)
+
+pub feeding-holds : (Holds : Work → List (List ℕ) → Type 0) (b : State) (share : ℕ) (held : Option ℕ)
+    → ((w : Work) (l : List (List ℕ)) → SpellsAs w.pdcp.tx b.pdcp.tx → Holds w l
+    → Holds (fed w) (l ++ next-offered w.pdcp.tx))
+    → Holds (begun b share) [] → Holds (feeding b share held) (offers_in b share held)
+feeding-holds Holds b share held goes-on h =
+    let x = b.pdcp.tx in
+    let f = feeds-fed Holds x goes-on (offers x) (data_size b share) held [] (begun b share)
+    (record { kind = refl; protection = refl }) refl h in
+    subst (Holds (feeding b share held)) (offered-are b share held f.n f.few f.left) f.holds
+
+-- what is told so far is gathered, and the kind stays
+pub record Feeds (p : Progress) (s : Supply History) (w : Work) (l : List (List ℕ)) : Type 0 where
+  pub kind : w.pdcp.kind ≡ AmKind s.bits
+  pub went : Went (with_offered l p) w.pdcp.tx w.events s
+
+pub feeds-on : (p : Progress) (s : Supply History) (x : Sending) (w : Work) (l : List (List ℕ))
+    → IsKind (AmKind s.bits) → x.kind ≡ AmKind s.bits → SpellsAs w.pdcp.tx x → Feeds p s w l
+    → Feeds p s (fed w) (l ++ next-offered w.pdcp.tx)
+feeds-on p s x w l bits k same h = record {
+  kind = fed-kind w ∙ h.kind;
+  went = subst (λ (l' : List (List ℕ)). Went (record p { offered = l' }) (fed w).pdcp.tx (fed w).events s)
+      (append_assoc p.offered l (next-offered w.pdcp.tx))
+      (fed-went (with_offered l p) w s bits h.kind (same.kind ∙ k) h.went);
+}
+
+pub begun-feeds : (p : Progress) (b : State) (share : ℕ) (s : Supply History) → IsOfData s.bits b
+    → IsSupplied p b.pdcp.tx s → Feeds p s (begun b share) []
+begun-feeds p b share s k h =
+    let told = (begun b share).events in
+    record {
+      kind = k.kind;
+      went = more-nothing p b.pdcp.tx told s (quiet-went p b.pdcp.tx told s (begun-quiet b share) h);
+    }
+
 writes-went : (p : Progress) (b : State) (share : ℕ) (held : Option ℕ) (s : Supply History) → IsKind (AmKind s.bits)
     → IsOfData s.bits b → IsSupplied p b.pdcp.tx s
     → Went (with_offered (offers_in b share held) p) (after_taking b share held).pdcp.tx (am_taking b share held) s
 unfolding after_taking am_taking
 writes-went p b share held s bits k h =
-    let x = b.pdcp.tx in
-    let size = data_size b share in
-    let begins = status_told b.pdcp.lcid (has_prohibit b) b.rx share in
     let v = feeding b share held in
-    let q : AreQuiet begins =
-    status-quiet b.pdcp.lcid (ack b.rx (share - 3) % 1024) (has_prohibit b) (writes_status b.rx share) in
-    let f : Fed (offers x) p x v s =
-    feeds-went (offers x) size held p x (work b.pdcp b.tx begins) s bits k.kind k.sending
-    (record { kind = refl; protection = refl }) refl (quiet-went p x begins s q h) in
-    more-quiet (with_offered (offers_in b share held) p) v.pdcp.tx v.events
-    (data_told v.pdcp.lcid (answer_of v size held)) s (data-quiet v.pdcp.lcid (answer_of v size held))
-    (subst (λ (l : List (List ℕ)). Went (with_offered l p) v.pdcp.tx v.events s)
-    (offered-are b share held f.n f.few f.left) f.went)
+    let ends = answer_of v (data_size b share) held in
+    let f = feeding-holds (Feeds p s) b share held (λ w l. feeds-on p s b.pdcp.tx w l bits k.sending)
+    (begun-feeds p b share s k h) in
+    more-quiet (with_offered (offers_in b share held) p) v.pdcp.tx v.events (data_told v.pdcp.lcid ends) s
+    (data-quiet v.pdcp.lcid ends) f.went
 
 -- ---- a timer expires
 
@@ -261,7 +296,7 @@ clock-quiet Poll b = poll-quiet b.pdcp.lcid (poll_expiry b.tx (has_more b.pdcp))
 clock-quiet Reorder b = timer-quiet b.pdcp.lcid Reorder (reorder_answer b.rx.mark b.rx)
 clock-quiet Prohibit b = timer-quiet b.pdcp.lcid Prohibit (prohibit_answer b.rx)
 
-expiry-quiet : (clock : Clock) (b : State) → AreQuiet (told_of (am_expiry b clock))
+pub expiry-quiet : (clock : Clock) (b : State) → AreQuiet (told_of (am_expiry b clock))
 unfolding am_expiry
 expiry-quiet clock b = clock-quiet clock b
 
@@ -363,14 +398,6 @@ gathers p b d c s x same e h = record {
       h.supplied;
   right = h.right;
   bits = h.bits ∙ same;
-}
-
-more-nothing : (p : Progress) (x : Sending) (told : List Event) (s : Supply History) → Went p x told s
-    → Went (with_offered [] p) x told s
-more-nothing p x told s h = record {
-  supplied = nothing-more p x (supplied_all told s) h.supplied;
-  right = h.right;
-  bits = h.bits;
 }
 
 sender-is : (b d : State) → Am b ≡ Am d → d.pdcp.tx ≡ b.pdcp.tx

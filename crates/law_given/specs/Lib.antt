@@ -4,6 +4,7 @@ pub mod Confirming
 pub mod Deeds
 pub mod Supplied
 pub mod SupplyLaws
+pub mod SupplyPdus
 pub mod Joined
 pub mod Saying
 pub mod Landing

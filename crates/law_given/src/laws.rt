@@ -21,6 +21,7 @@ ghost use Rattle.law_given.specs.SupplyLaws.{SuppliesBegin, LivesAreGathered};
 ghost use Rattle.law_given.specs.Joined.{BearersAreJoined, ReportsAreRead};
 ghost use Rattle.law_given.specs.SupplyLaws.{CallsAreGathered, GivenAreOffered, MoreIsTakeable};
 ghost use Rattle.law_given.specs.SupplyLaws.{StatusesAreGathered, DataIsGathered};
+ghost use Rattle.law_given.specs.SupplyPdus.{OfferedAreTold, KeptWereSubmitted};
 ghost use Rattle.law_given.specs.Saying.{ReportsSayWhatHasCome, EndsSayWhatHasCome};
 ghost use Rattle.law_given.specs.Saying.{LivesSayWhatHasCome, CountsComeAsHanded, LivesBeginBeside};
 ghost use Rattle.law_given.specs.Saying.{WithinBeside, GivenBeside, EndedBeside, BegunAlike};
@@ -148,6 +149,14 @@ pub fn deeds_take_alike()
 /// is what is takeable next, with the length of its SDU, and a status report says what has come.
 pub fn calls_are_gathered()
     ensures { CallsAreGathered }
+{}
+
+/// The PDUs that RLC is offered in a call are, event by event of what it tells, the PDU of the SDU
+/// that is kept for the COUNT of a `take`, and the status report of a `report`, where the one that
+/// is owed is as it is written. What is kept for a COUNT was submitted.
+pub fn offered_are_told()
+    ensures pdus { OfferedAreTold }
+    ensures kept { KeptWereSubmitted }
 {}
 
 /// What is counted as given is what RLC was offered, and it may take more of PDCP just where
