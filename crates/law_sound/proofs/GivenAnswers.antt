@@ -27,7 +27,7 @@ use Rattle.journal_flows.specs.FlowsTold.{Histories, histories as flows, no_even
 use Rattle.journal_flows.specs.Gathering.{Journal, MayTake, behind, behind_line, behind_record, behind_records}
 use Rattle.journal_given.specs.Giving.{side_of, may_take_by}
 use Rattle.journal_given.specs.Supplies.{Bearer, History, histories}
-use Rattle.law_bearer.specs.AnyBearer.Calls.{Call, Arrive}
+use Rattle.law_bearer.specs.AnyBearer.Calls.{Call}
 use Rattle.law_bearer.specs.AmBearer.Calls.{tells}
 use Rattle.law_deliver.specs.AmChannel.Lives.{AirStep, end_at}
 use Rattle.law_deliver.specs.AmFlow.Air.{Air}
@@ -41,7 +41,6 @@ use Rattle.law_given.proofs.BearerRecordsWaits.{may_take_by_records}
 use Rattle.law_given.proofs.GivenRecords.{BringsNoBlock, before_is, journal_at, records_gather, same_side}
 use Rattle.law_given.proofs.PollFirst.{IsNoExpiry, NoneExpires, OnlyFirst, call-first}
 use Rattle.law_given.proofs.Supplied.{more_is_takeable}
-use Rattle.law_given.proofs.SupplyQuiet.{arrivals_expire_none}
 use Rattle.law_node.specs.Holding.{flow}
 use Rattle.law_run.specs.TwoEnds.Logs.{logged}
 use Rattle.law_run.proofs.EmptyLists.{parts_empty}
@@ -112,16 +111,6 @@ pub none_answer : (l : ℕ) (may_take : MayTake) (past : List Group) (before : L
 none_answer l may_take past before xs none =
     unexpired_answer l may_take past before xs
     (none_expire l (records_of xs) (λ side. subst NoneExpires (sym (none side)) tt))
-
--- what arrives at a side's bearer tells of none
-pub arrival_answers : (l : ℕ) (may_take : MayTake) (past : List Group) (before : List Record) (xs : List ReadRecord)
-    (side : Side) (d : State) (pdu : List ℕ) → told_on l (events_of side (records_of xs)) ≡ tells d (Arrive pdu)
-    → told_on l (events_of (other side) (records_of xs)) ≡ [] → AnswerAlike l may_take past before xs
-arrival_answers l may_take past before xs side d pdu own far =
-    unexpired_answer l may_take past before xs
-    (none_expire l (records_of xs)
-    (of_both side (λ (s : Side). NoneExpires (told_on l (events_of s (records_of xs))))
-    (subst NoneExpires (sym own) (arrivals_expire_none d pdu)) (subst NoneExpires (sym far) tt)))
 
 -- ---- the records of a step are answered: behind those of the step itself stand some that log nothing
 

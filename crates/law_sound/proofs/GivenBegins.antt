@@ -34,16 +34,16 @@ use Rattle.law_sound.proofs.GivenLives.{given_begins}
 use Rattle.law_sound.proofs.GroupReading.{begins}
 
 -- no record is left of none
-none_left : (told : List Record) (one : Record) (rest : List Record) → [] ≡ told ++ one ∷ rest → ⊥
+pub none_left : (told : List Record) (one : Record) (rest : List Record) → [] ≡ told ++ one ∷ rest → ⊥
 none_left [] one rest e = cc
 none_left (first ∷ told) one rest e = cc
 
 -- the supplies of both its ends as they begin
-abbrev first_bearer : BearerConfig → Bearer History
+abbrev pub first_bearer : BearerConfig → Bearer History
 first_bearer c = record { nb = begun histories c.first c.pdcp_bits; ue = begun histories c.first c.pdcp_bits }
 
 -- the bearer is the one of its line
-bearer_comes : (newer past : List Group) (g : Group) (c : BearerConfig) (options : _) → c.channel.lcid ≤ 10
+pub bearer_comes : (newer past : List Group) (g : Group) (c : BearerConfig) (options : _) → c.channel.lcid ≤ 10
     → g.events ≡ [] → c.kind ≡ bearers.Am
     → bearer_at c.channel.lcid (all_given histories (record g { line = lines.Bearer c options } ∷ past)).bearers
     ≡ Some (first_bearer c)

@@ -66,9 +66,8 @@ use Rattle.law_node.specs.Calls.{Receive}
 use Rattle.law_node.specs.Holding.{flow}
 use Rattle.law_node.specs.Telling.{told_of}
 use Rattle.law_run.specs.TwoEnds.Along.{at_side}
-use Rattle.law_run.specs.TwoEnds.Logs.{LogEntry, Tells, Builds, Hears, Flight, process_of, flight_behind, flight_in}
+use Rattle.law_run.specs.TwoEnds.Logs.{LogEntry, Tells, Builds, Hears, Flight, process_of, flight_in}
 use Rattle.law_run.specs.TwoEnds.Logs.{logged_at, logged, all_tell, log_come, log_at}
-use Rattle.law_run.proofs.EmptyLists.{parts_empty}
 use Rattle.law_run.proofs.TwoEnds.Along.{flight_more}
 use Rattle.law_words.specs.Arrivals.{account}
 use Rattle.law_sound.specs.AgreeLaws.{AgreeOn}
@@ -76,6 +75,7 @@ use Rattle.law_sound.specs.BesideLaws.{IsGatheredBeside, station_of}
 use Rattle.law_sound.specs.HeldLaws.{held_parcels}
 use Rattle.law_sound.specs.LivedFails.{HaveComeNew}
 use Rattle.law_sound.specs.LivedHistories.{AreLived, Moment}
+use Rattle.law_sound.specs.NamedSteps.{SendsNoNewBlock}
 use Rattle.law_sound.specs.StepReading.{IsFlightOf}
 use Rattle.law_sound.proofs.Agreeing.{Agrees}
 use Rattle.law_sound.proofs.CarriedShapes.{BlockBrings, blocks_bring}
@@ -91,7 +91,7 @@ use Rattle.law_sound.proofs.GivenSteps.{goes_are, loops_are}
 use Rattle.law_sound.proofs.GivenWays.{ways_go, same_state}
 use Rattle.law_sound.proofs.LaterRecords.{TellsOfNoTaking, LeavesTaking, arrivals_over, later_records_leave}
 use Rattle.law_sound.proofs.LivedFails.{AreThere}
-use Rattle.law_sound.proofs.LoggedEvents.{events_in, records_events, far_told}
+use Rattle.law_sound.proofs.LoggedEvents.{as_logged, events_in, records_events, far_told, none_sent}
 use Rattle.law_sound.proofs.SentProcesses.{event_keeps, landing_keeps, processes_are}
 
 -- ---- what PDUs bring that arrive
@@ -203,11 +203,6 @@ all_leave : (l : ℕ) (side : Side) (es : List Event) → AllByRecursion (TellsO
 all_leave l side [] h = tt
 all_leave l side (e ∷ es) h = (h.0, all_leave l side es h.1)
 
-rest_leaves : (l : ℕ) (xs ys : List LogEntry) → AllByRecursion (LeavesIt l) (xs ++ ys)
-    → AllByRecursion (LeavesIt l) ys
-rest_leaves l [] ys h = h
-rest_leaves l (x ∷ xs) ys h = rest_leaves l xs ys h.1
-
 loop_leaves : (l : ℕ) (e : Event) → is_of_loop e ≡ true → TellsOfNoTaking l e
 loop_leaves l (events.Take lcid count len) loop = let no : false ≡ true = loop in absurd cc
 loop_leaves l (events.Report lcid fms bitmap) loop = let no : false ≡ true = loop in absurd cc
@@ -216,42 +211,24 @@ loop_leaves l e loop = tt
 
 records_leave : (l : ℕ) (sent : Flight) (xs : List Record) → AllByRecursion (LeavesIt l) (logged sent xs)
     → AllByRecursion (LeavesTaking l) xs
-records_leave l sent [] h = tt
-records_leave l sent (one ∷ xs) h =
-    let rest = logged (flight_behind one sent) xs in
-    (by one rest h, records_leave l (flight_behind one sent) xs (rest_leaves l (logged_at sent one) rest h))
+records_leave l = as_logged (LeavesIt l) (LeavesTaking l) (λ sent one h. by sent one h)
   where
-    event : (own : Side) (e : Event) (rest : List LogEntry) (loop : Bool) → is_of_loop e ≡ loop
-        → AllByRecursion (LeavesIt l) ((if loop then [] else Tells own e ∷ []) ++ rest) → TellsOfNoTaking l e
-    event own e rest true loop h = loop_leaves l e loop
-    event own e rest false loop h = h.0
+    event : (own : Side) (e : Event) (loop : Bool) → is_of_loop e ≡ loop
+        → AllByRecursion (LeavesIt l) (if loop then [] else Tells own e ∷ []) → TellsOfNoTaking l e
+    event own e true loop h = loop_leaves l e loop
+    event own e false loop h = h.0
 
-    by : (one : Record) (rest : List LogEntry) → AllByRecursion (LeavesIt l) (logged_at sent one ++ rest)
-        → LeavesTaking l one
-    by (records.Of own e) rest h = event own e rest (is_of_loop e) refl h
-    by (records.Block direction process true version octets) rest h = absurd h.0
-    by (records.Air direction Got heard) rest h = absurd h.0
-    by one rest h = tt
+    by : (sent : Flight) (one : Record) → AllByRecursion (LeavesIt l) (logged_at sent one) → LeavesTaking l one
+    by sent (records.Of own e) h = event own e (is_of_loop e) refl h
+    by sent (records.Block direction process true version octets) h = absurd h.0
+    by sent (records.Air direction Got heard) h = absurd h.0
+    by sent one h = tt
 
 -- ---- what processes hold stays where no new block is built
 
-abbrev BuildsNone : Record → Type 0
-BuildsNone (records.Block direction process true version octets) = ⊥
-BuildsNone one = Unit {0}
-
-none_built : (sent : Flight) (xs : List Record) → logged sent xs ≡ [] → AllByRecursion BuildsNone xs
-none_built sent [] none = tt
-none_built sent (one ∷ xs) none =
-    let parts = parts_empty (logged_at sent one) (logged (flight_behind one sent) xs) none in
-    (by one parts.0, none_built (flight_behind one sent) xs parts.1)
-  where
-    by : (one : Record) → logged_at sent one ≡ [] → BuildsNone one
-    by (records.Block direction process true version octets) none = absurd cc
-    by one none = tt
-
 module _ {F : Type 0} (g : Gatherer F) where
   record_holds : (layouts : List (Option Layout)) (more : Bool) (one : Record) (side : Side) (j : Journal F)
-      → BuildsNone one
+      → SendsNoNewBlock one
       → (sending_of side (behind_record g layouts more one j)).held ≡ (sending_of side j).held
   record_holds layouts more (records.Of by event) side j none =
       event_keeps g (λ (x : Sending). x.held) (λ named x. refl) layouts more by side event j
@@ -265,7 +242,7 @@ module _ {F : Type 0} (g : Gatherer F) where
   record_holds layouts more one side j none = refl
 
   records_hold : (may_take : MayTake) (past : List Group) (layouts : List (Option Layout))
-      (before told : List Record) (side : Side) (j : Journal F) → AllByRecursion BuildsNone told
+      (before told : List Record) (side : Side) (j : Journal F) → AllByRecursion SendsNoNewBlock told
       → (sending_of side (behind_records g may_take past layouts before told j)).held ≡ (sending_of side j).held
   records_hold may_take past layouts before [] side j none = refl
   records_hold may_take past layouts before (one ∷ told) side j none =
@@ -442,7 +419,7 @@ module _ (l : ℕ) (low : l ≤ 10) (newer : List Group) (now : Group) (past : L
           let same = same_sending l from (at_told told) j agree in
           let held : (sending_of from last).held ≡ (sending_of from j).held =
           records_hold histories may_take past layouts seen first from (at_told told)
-          (all_then BuildsNone h.silent (one ∷ []) (none_built sent h.silent h.silent_logs) (tt, tt))
+          (all_then SendsNoNewBlock h.silent (one ∷ []) (none_sent sent h.silent h.silent_logs) (tt, tt))
           ∙ ap (λ (x : Sending). x.held) same in
           let process : (sending_of from last).process ≡ block.process =
           processes_are histories may_take past layouts seen first from (at_told told) sent

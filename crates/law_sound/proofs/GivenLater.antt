@@ -45,7 +45,8 @@ use Rattle.law_given.proofs.Submissions.{submissions_then, all_submitted}
 use Rattle.law_given.proofs.Tied.{AreTied, TiesGoOn, ties_go_on, calls_of_step}
 use Rattle.law_given.proofs.TiedEnds.{ties_side}
 use Rattle.law_run.specs.TwoEnds.Along.{AreAlong, at_side}
-use Rattle.law_run.specs.TwoEnds.Logs.{Flight, flight_in, flight_behind, Tells, logged, logged_at, log_at, log_come}
+use Rattle.law_run.specs.TwoEnds.Logs.{LogEntry, Flight, flight_in, flight_behind, Tells, logged, logged_at, log_at}
+use Rattle.law_run.specs.TwoEnds.Logs.{log_come}
 use Rattle.law_run.specs.TwoEnds.Staying.{AreInLife}
 use Rattle.law_run.proofs.Flowing.{looped_then}
 use Rattle.law_words.specs.Arrivals.{Account, AccountEntry, account}
@@ -95,23 +96,24 @@ told_gone l (e ∷ es) gone = if_on (is_on l e) (told_gone l es gone.1)
     if_on true more = (gone.0, more)
     if_on false more = more
 
-gone_told : (l : ℕ) (side : Side) (xs : List Record) → AreGone xs
+pub gone_told : (l : ℕ) (side : Side) (xs : List Record) → AreGone xs
     → AllByRecursion IsGoneEvent (told_on l (events_of side xs))
 gone_told l side xs gone = told_gone l (events_of side xs) (events_gone side xs gone)
 
--- and no block comes
-gone_hear_none : (sent : Flight) (xs : List Record) → AreGone xs → AllByRecursion HearsNone (logged sent xs)
-gone_hear_none sent [] gone = tt
-gone_hear_none sent (one ∷ xs) gone =
-    all_then HearsNone (logged_at sent one) (logged (flight_behind one sent) xs) (by one gone.0)
-    (gone_hear_none (flight_behind one sent) xs gone.1)
+-- and no block comes or goes
+pub gone_log_events : (Entry : LogEntry → Type 0) → ((side : Side) (e : Event) → Entry (Tells side e)) → (sent : Flight)
+    (xs : List Record) → AreGone xs → AllByRecursion Entry (logged sent xs)
+gone_log_events Entry tells sent [] gone = tt
+gone_log_events Entry tells sent (one ∷ xs) gone =
+    all_then Entry (logged_at sent one) (logged (flight_behind one sent) xs) (by one gone.0)
+    (gone_log_events Entry tells (flight_behind one sent) xs gone.1)
   where
-    by : (one : Record) → IsGone one → AllByRecursion HearsNone (logged_at sent one)
+    by : (one : Record) → IsGone one → AllByRecursion Entry (logged_at sent one)
     by (records.Of side e) h = event (is_of_loop e)
       where
-        event : (b : Bool) → AllByRecursion HearsNone (if b then [] else Tells side e ∷ [])
+        event : (b : Bool) → AllByRecursion Entry (if b then [] else Tells side e ∷ [])
         event true = tt
-        event false = (tt, tt)
+        event false = (tells side e, tt)
     by (records.Block way process fresh version octets) h = absurd h
     by (records.Air way what heard) h = absurd h
     by one h = tt
@@ -260,7 +262,7 @@ module _ (l : ℕ) (low : l ≤ 10) (newer : List Group) (now : Group) (past : L
     given_by (Brought from k block is at) =
         absurd (none_brought from k block air at
         (subst (λ (z : Step). AllByRecursion HearsNone (log_at air (InLife z))) is
-        (subst (AllByRecursion HearsNone) logs (gone_hear_none sent xs gone))))
+        (subst (AllByRecursion HearsNone) logs (gone_log_events HearsNone (λ own e. tt) sent xs gone))))
 
     pub begun_on : IsBegun behind a b'
     begun_on = record {

@@ -297,7 +297,7 @@ module _ (newer : List Group) (c : BearerConfig) (l : ℕ) (past : List Group) (
   abbrev bearer : Bearer History
   bearer = lives_ended histories (own Nb) (own Ue) (submitted_to (loops_in l g.events) h.given.bearer)
 
-  bearer_so : bearer_at l (all_given histories (now ∷ past)).bearers ≡ Some bearer
+  pub bearer_so : bearer_at l (all_given histories (now ∷ past)).bearers ≡ Some bearer
   bearer_so =
       let by = one_bearer_by_histories l newer now past low in
       by.ends

@@ -3,6 +3,8 @@
 -- refused, or of another channel, all is as it was.
 use Rattle.std.proofs.Common.{◌≡◌, ◌≤◌, ℕ, Bool, true, false, ◌==◌, if◌then◌else◌, List, [], ◌∷◌, ◌++◌, Option, Some}
 use Rattle.std.proofs.Common.{None, append-nil, refl, ap, sym, subst, ◌∙◌, ◌⊎◌, inl, inr}
+use Rattle.std.proofs.lemmas.Bool.{eqb-true}
+use Rattle.air_link.specs.Lines.{no_place}
 use Rattle.air_record.specs.Submissions.{unrefused}
 use Rattle.air_record.specs.declared.line.Line.TheVariants as lines
 use Rattle.air_record.specs.declared.record.NoPlace.{NoPlace}
@@ -11,7 +13,9 @@ use Rattle.air_record.specs.declared.record.Record.TheVariants as records
 use Rattle.air_record.specs.declared.submission.Submission.{Submission}
 use Rattle.air_text.specs.Groups.{Group}
 use Rattle.bearer.specs.Acknowledged.State.{State}
+use Rattle.bearer.specs.declared.flow.Flow.{Flow}
 use Rattle.bearer.specs.declared.flow.Flow.TheVariants.{Am}
+use Rattle.bearer.specs.Submitting.{refusal as flow_refusal}
 use Rattle.bearer_types.specs.Sides.{other}
 use Rattle.bearer_types.specs.declared.config.BearerConfig.{BearerConfig}
 use Rattle.l2_bits.specs.declared.fault.SubmitRefusal.{SubmitRefusal}
@@ -30,7 +34,7 @@ use Rattle.journal_given.specs.Giving.{bearer_at, all_given, may_take_by}
 use Rattle.journal_given.specs.Supplies.{Bearer, History, histories, told as supply_told}
 use Rattle.journal_lives.specs.LifeEvents.{running}
 use Rattle.journal_takes.specs.TakeEvents.{SduSubmitted}
-use Rattle.law_bearer.specs.AnyBearer.Calls.{Call as BearerCall, Submit as Submits, after_all}
+use Rattle.law_bearer.specs.AnyBearer.Calls.{Call as BearerCall, Submit as Submits, after as after_call, after_all}
 use Rattle.law_deliver.specs.AmChannel.Arrival.{told_from}
 use Rattle.law_deliver.specs.AmChannel.Lives.{AirStep, InLife, AreLiving, lives, end_at}
 use Rattle.law_deliver.specs.AmFlow.Air.{Air, Calls, Step, happens, outset, IsGiven}
@@ -43,6 +47,7 @@ use Rattle.law_given.proofs.BearerRecordsHistories.{one_bearer_by_histories}
 use Rattle.law_given.proofs.Tied.{TiesGoOn, ties_go_on, calls_of_step}
 use Rattle.law_given.proofs.TiedEnds.{ties_side}
 use Rattle.law_node.specs.Calls.{Submit}
+use Rattle.law_node.specs.Holding.{flow}
 use Rattle.law_run.specs.Order.{IsRight, KeepsOrder}
 use Rattle.law_run.specs.TwoEnds.Along.{at_side}
 use Rattle.law_run.specs.TwoEnds.Logs.{logged, log_at, no_flight}
@@ -63,7 +68,7 @@ use Rattle.law_sound.proofs.GivenBeside.{AreGivenOf, of_both, own_after, given_b
 use Rattle.law_sound.proofs.GivenBetween.{may, IsGivenBehind, GroupSaid, GoesBehind}
 use Rattle.law_sound.proofs.GivenMoments.{way, bearer, history, sizes_told}
 use Rattle.law_sound.proofs.GivenStepFacts.{lives_last, bearers_go, account_goes}
-use Rattle.law_sound.proofs.GivenWays.{same_state, quiet_ways, own_way, far_way}
+use Rattle.law_sound.proofs.GivenWays.{same_state, was_at, quiet_ways, own_way, far_way}
 use Rattle.law_sound.proofs.GroupAgreeing.{agrees_behind}
 use Rattle.law_sound.proofs.GatheredFails.{fails_still}
 use Rattle.law_sound.proofs.GroupCarrying.{SubmitsCarrying, IsReadBehind, HandsIn, Refuses, submits_carrying}
@@ -72,14 +77,29 @@ use Rattle.law_sound.proofs.Telling.{at_own}
 
 -- ---- records
 
-none_more : (told : List Record) (one : Record) (rest : List Record) → [] ≡ told ++ one ∷ rest → ⊥
+pub none_more : (told : List Record) (one : Record) (rest : List Record) → [] ≡ told ++ one ∷ rest → ⊥
 none_more told one rest e = let none = (parts_empty told (one ∷ rest) (sym e)).1 in cc
 
-only_one : (told : List Record) (one : Record) (rest : List Record) (x : Record) → x ∷ [] ≡ told ++ one ∷ rest
+pub only_one : (told : List Record) (one : Record) (rest : List Record) (x : Record) → x ∷ [] ≡ told ++ one ∷ rest
     → one ≡ x
 only_one [] one rest x e = cc
 only_one (y ∷ told) one rest x e =
     let more : [] ≡ told ++ one ∷ rest = cc in absurd (none_more told one rest more)
+
+-- ---- what the line makes of both bearers of the channel, and of what is gathered of them
+
+-- its side's is submitted the SDU
+pub record IsSubmitted (side : Side) (octets : List ℕ) (was now : Side → State) (before behind : Bearer History)
+    : Type 0 where
+  pub accepts : flow_refusal (Am (was side)) octets ≡ None
+  pub goes : after_call (Am (was side)) (Submits octets) ≡ Am (now side)
+  pub far : now (other side) ≡ was (other side)
+  pub bearer_is : behind ≡ own_after (was side) side (Submits octets) before
+
+-- or nothing happens to them
+pub record StaySo (was now : Side → State) (before behind : Bearer History) : Type 0 where
+  pub same : (side : Side) → now side ≡ was side
+  pub bearer_is : behind ≡ before
 
 -- ---- the step that hands an SDU in
 
@@ -99,6 +119,14 @@ module _ (l lcid : ℕ) (octets : List ℕ) where
       → calls_of_step l side a (InLife (submits side)) ≡ only here (Submits octets)
   own_calls Nb a here taken at = taken_in a.nb.end here taken at
   own_calls Ue a here taken at = taken_in a.ue.end here taken at
+
+  own_accepts : (e : End) (b : State) → (lcid == l) ≡ true → flow l e ≡ Am b → refusal lcid octets e ≡ None
+      → flow_refusal (Am b) octets ≡ None
+  unfolding refusal
+  own_accepts e b at is taken =
+      ap (λ (f : Flow). flow_refusal f octets) (sym is)
+      ∙ ap (λ (k : ℕ). flow_refusal (flow k e) octets) (sym (eqb-true lcid l at))
+      ∙ taken
 
   far_calls : (side : Side) (a : Air) → calls_of_step l (other side) a (InLife (submits side)) ≡ []
   far_calls Nb a = refl
@@ -282,6 +310,7 @@ module _ (all : List Group) (c : BearerConfig) (l : ℕ) (past : List Group) (g 
         is : changed_if (lcid == l) side (supply_told histories (SduSubmitted octets)) (Some w.bearer)
             ≡ Some bearer_then
         given_then : GivenOn bearer_then
+        how : IsSubmitted side octets was now_is w.bearer bearer_then ⊎ StaySo was now_is w.bearer bearer_then
 
       taken_at : refusal lcid octets (end_at side air) ≡ None
       taken_at =
@@ -312,36 +341,57 @@ module _ (all : List Group) (c : BearerConfig) (l : ℕ) (past : List Group) (g 
           w.given (quiet_ways l c w.nb w.ue w.steps s w.tied n quiet)
           (λ z. same_state (was z) (now_is z) (ap (after_all (Am (was z))) (sym (quiet z)) ∙ goes_to z))
 
+      one_submitted : (lcid == l) ≡ true → calls side ≡ Submits octets ∷ []
+          → IsSubmitted side octets was now_is w.bearer (own_after (was side) side (Submits octets) w.bearer)
+      one_submitted at one = record {
+        accepts = own_accepts l lcid octets (end_at side air) (was side) at (was_at l c w.nb w.ue w.steps w.tied side)
+            taken_at;
+        goes = ap (after_all (Am (was side))) (sym one) ∙ goes_to side;
+        far = far_same;
+        bearer_is = refl;
+      }
+
+      none_submitted : calls side ≡ [] → StaySo was now_is w.bearer w.bearer
+      none_submitted none =
+          let quiet : (z : Side) → calls z ≡ [] = of_both side (λ (z : Side). calls z ≡ []) none far in
+          record {
+            same = λ z. same_state (was z) (now_is z) (ap (after_all (Am (was z))) (sym (quiet z)) ∙ goes_to z);
+            bearer_is = refl;
+          }
+
       by_channel : (here : Bool) → (lcid == l) ≡ here → BearerThen
       by_channel true at = record {
         bearer_then = own_after (was side) side (Submits octets) w.bearer;
         is = ap (λ (b : Bool). changed_if b side (supply_told histories (SduSubmitted octets)) (Some w.bearer)) at;
         given_then = submitted_here (own_calls l lcid octets side air true taken_at at);
+        how = inl (one_submitted at (own_calls l lcid octets side air true taken_at at));
       }
       by_channel false at = record {
         bearer_then = w.bearer;
         is = ap (λ (b : Bool). changed_if b side (supply_told histories (SduSubmitted octets)) (Some w.bearer)) at;
         given_then = submitted_elsewhere (own_calls l lcid octets side air false taken_at at);
+        how = inr (none_submitted (own_calls l lcid octets side air false taken_at at));
       }
 
+      then' : BearerThen
+      then' = by_channel (lcid == l) refl
+
       handed_in : IsGivenBehind all c l behind_it read
-      handed_in =
-          let b = by_channel (lcid == l) refl in
-          record {
-            keys = w.keys;
-            nb = w.nb;
-            ue = w.ue;
-            begins = w.begins;
-            steps = on;
-            living = living;
-            there = there;
-            tied = n.next;
-            account_is = accounts;
-            bearer = b.bearer_then;
-            is = taken_on c l past g side lcid octets h.low w.bearer w.is x.none ∙ b.is;
-            given = b.given_then;
-            agree = agree;
-          }
+      handed_in = record {
+        keys = w.keys;
+        nb = w.nb;
+        ue = w.ue;
+        begins = w.begins;
+        steps = on;
+        living = living;
+        there = there;
+        tied = n.next;
+        account_is = accounts;
+        bearer = then'.bearer_then;
+        is = taken_on c l past g side lcid octets h.low w.bearer w.is x.none ∙ then'.is;
+        given = then'.given_then;
+        agree = agree;
+      }
 
       handed_said : GroupSaid all l behind_it
       handed_said told one rest are = absurd (none_more told one rest (sym x.none ∙ are))
@@ -381,12 +431,23 @@ module _ (all : List Group) (c : BearerConfig) (l : ℕ) (past : List Group) (g 
           (bearer_before l (record g { line = lines.Submit side lcid octets }) past told one))
           (sym (only_one told one rest _ (sym x.are ∙ are))) tt
 
-pub submits_given : (all newer : List Group) (c : BearerConfig) (l : ℕ) (past : List Group) (g : Group) (side : Side)
+-- with what its records and calls are
+pub record SubmitsSo (all : List Group) (c : BearerConfig) (l : ℕ) (past : List Group) (g : Group) (side : Side)
+    (lcid : ℕ) (octets : List ℕ) (h : GoesBehind all c l past) : Type 0 where
+  pub next : GoesBehind all c l (record g { line = lines.Submit side lcid octets } ∷ past)
+  pub told : (g.events ≡ []) ⊎ ((why : NoPlace) × (g.events ≡ records.Refused side lcid why ∷ []))
+  pub how : IsSubmitted side octets (bearer l c h.given.nb h.given.ue h.given.steps h.given.tied)
+      (bearer l c next.given.nb next.given.ue next.given.steps next.given.tied) h.given.bearer next.given.bearer
+      ⊎ StaySo (bearer l c h.given.nb h.given.ue h.given.steps h.given.tied)
+      (bearer l c next.given.nb next.given.ue next.given.steps next.given.tied) h.given.bearer next.given.bearer
+
+pub submits_so : (all newer : List Group) (c : BearerConfig) (l : ℕ) (past : List Group) (g : Group) (side : Side)
     (lcid : ℕ) (octets : List ℕ) → all ≡ newer ++ record g { line = lines.Submit side lcid octets } ∷ past
     → IsRight past (record g { line = lines.Submit side lcid octets }) → KeepsOrder past
     → TellsFlows (record g { line = lines.Submit side lcid octets } ∷ past) → c.kind ≡ bearers.Am
-    → GoesBehind all c l past → GoesBehind all c l (record g { line = lines.Submit side lcid octets } ∷ past)
-submits_given all newer c l past g side lcid octets are right order flows_told data' h =
+    → (h : GoesBehind all c l past) → SubmitsSo all c l past g side lcid octets h
+unfolding handed_in n then' refused
+submits_so all newer c l past g side lcid octets are right order flows_told data' h =
     let x = submits_carrying (may all) c l past g side lcid octets right order h.read in by x x.so
   where
     by : (x : SubmitsCarrying (may all) c l past (record g { line = lines.Submit side lcid octets }) side lcid octets
@@ -395,22 +456,38 @@ submits_given all newer c l past g side lcid octets are right order flows_told d
         x.behind
         ⊎ Refuses (may all) c l past (record g { line = lines.Submit side lcid octets }) side lcid octets h.read
         x.behind
-        → GoesBehind all c l (record g { line = lines.Submit side lcid octets } ∷ past)
+        → SubmitsSo all c l past g side lcid octets h
     by x (inl y) =
         let given = handed_in all c l past g side lcid octets flows_told data' h.read h.given x.behind y in
         record {
-          read = x.behind;
-          given = given;
-          said = handed_said all c l past g side lcid octets flows_told data' h.read h.given x.behind y;
-          fails = fails_still (may all) c l _ past x.behind.newest h.read.journal x.behind.journal refl h.given.agree
-              given.agree x.first_is x.journal_is;
+          next = record {
+            read = x.behind;
+            given = given;
+            said = handed_said all c l past g side lcid octets flows_told data' h.read h.given x.behind y;
+            fails = fails_still (may all) c l _ past x.behind.newest h.read.journal x.behind.journal refl h.given.agree
+                given.agree x.first_is x.journal_is;
+          };
+          told = inl y.none;
+          how = (then' all c l past g side lcid octets flows_told data' h.read h.given x.behind y).how;
         }
     by x (inr y) =
         let given = refused all c l past g side lcid octets flows_told data' h.read h.given x.behind y in
         record {
-          read = x.behind;
-          given = given;
-          said = refused_said all c l past g side lcid octets flows_told data' h.read h.given x.behind y;
-          fails = fails_still (may all) c l _ past x.behind.newest h.read.journal x.behind.journal refl h.given.agree
-              given.agree x.first_is x.journal_is;
+          next = record {
+            read = x.behind;
+            given = given;
+            said = refused_said all c l past g side lcid octets flows_told data' h.read h.given x.behind y;
+            fails = fails_still (may all) c l _ past x.behind.newest h.read.journal x.behind.journal refl h.given.agree
+                given.agree x.first_is x.journal_is;
+          };
+          told = inr (no_place y.why, y.are);
+          how = inr (record { same = λ z. refl; bearer_is = refl });
         }
+
+pub submits_given : (all newer : List Group) (c : BearerConfig) (l : ℕ) (past : List Group) (g : Group) (side : Side)
+    (lcid : ℕ) (octets : List ℕ) → all ≡ newer ++ record g { line = lines.Submit side lcid octets } ∷ past
+    → IsRight past (record g { line = lines.Submit side lcid octets }) → KeepsOrder past
+    → TellsFlows (record g { line = lines.Submit side lcid octets } ∷ past) → c.kind ≡ bearers.Am
+    → GoesBehind all c l past → GoesBehind all c l (record g { line = lines.Submit side lcid octets } ∷ past)
+submits_given all newer c l past g side lcid octets are right order flows_told data' h =
+    (submits_so all newer c l past g side lcid octets are right order flows_told data' h).next

@@ -1,7 +1,7 @@
 -- Each entry of a log is of one record: an event of an end, a new block of its process, or a block that is got, of the
 -- process that its side sent last (TS 36.321 5.3.2, 5.4.2). So records split as their log does.
 use Rattle.std.proofs.Common.{◌≡◌, ℕ, Bool, true, false, if◌then◌else◌, Option, List, [], ◌∷◌, ◌++◌, refl, ap}
-use Rattle.std.proofs.Common.{append_assoc, sym, subst, ◌∙◌}
+use Rattle.std.proofs.Common.{append-nil, append_assoc, sym, subst, ◌∙◌}
 use Rattle.air_record.specs.declared.record.Arrived.TheVariants.{Got}
 use Rattle.air_record.specs.declared.record.Record.{Record}
 use Rattle.air_record.specs.declared.record.Record.TheVariants as records
@@ -13,7 +13,7 @@ use Rattle.mac_pdu.specs.declared.item.Direction.TheVariants as directions
 use Rattle.promises.specs.Events.{is_of_loop}
 use Rattle.promises.specs.Records.{is_got}
 use Rattle.law_run.specs.TwoEnds.Logs.{LogEntry, Tells, Builds, Hears, Flight, process_of, flight_behind, logged_at}
-use Rattle.law_run.specs.TwoEnds.Logs.{logged, flight_in}
+use Rattle.law_run.specs.TwoEnds.Logs.{all_tell, logged, flight_in}
 use Rattle.law_run.proofs.TwoEnds.Along.{flight_more, logged_more}
 
 -- ---- the record of the first entry
@@ -173,3 +173,45 @@ entry_is sent (records.Air direction Got heard) x e =
     (got_is sent direction heard)
 entry_is sent (records.Air direction what heard) x e = absurd cc
 entry_is sent one x e = absurd cc
+
+-- ---- the records of a new block: those before it, the block, and some that log nothing
+
+pub record BlockIn (side : Side) (process : ℕ) (octets : List ℕ) (said : List Event) (sent : Flight) (xs : List Record)
+    : Type 0 where
+  pub first : List Record
+  pub version : ℕ
+  pub behind : List Record
+  pub told_is : xs ≡ first ++ records.Block (sent_by side) process true version octets ∷ behind
+  pub first_logs : logged sent first ≡ all_tell side said
+  pub block_logs : logged_at (flight_in first sent) (records.Block (sent_by side) process true version octets)
+      ≡ Builds side process octets ∷ []
+  pub behind_logs
+      : logged (flight_in (first ++ records.Block (sent_by side) process true version octets ∷ []) sent) behind ≡ []
+
+pub block_in : (side : Side) (process : ℕ) (octets : List ℕ) (said : List Event) (sent : Flight) (xs : List Record)
+    → logged sent xs ≡ all_tell side said ++ Builds side process octets ∷ []
+    → BlockIn side process octets said sent xs
+block_in side process octets said sent xs log =
+    let p = logs_split xs sent (all_tell side said) (Builds side process octets ∷ []) log in
+    let f = first_entry p.behind (flight_in p.first sent) (Builds side process octets) [] p.behind_logged in
+    let first = p.first ++ f.silent in
+    let before = flight_in f.silent (flight_in p.first sent) in
+    let same : flight_in first sent ≡ before = sym (flight_more p.first f.silent sent) in
+    let b = entry_is before f.one (Builds side process octets) f.one_logs in
+    let block = records.Block (sent_by side) process true b.version octets in
+    record {
+      first = first;
+      version = b.version;
+      behind = f.behind;
+      told_is = p.told_is
+          ∙ (ap (λ (zs : List Record). p.first ++ zs)
+          (f.told_is ∙ ap (λ (one : Record). f.silent ++ one ∷ f.behind) b.is)
+          ∙ sym (append_assoc p.first f.silent (block ∷ f.behind)));
+      first_logs = logged_more sent p.first f.silent
+          ∙ (ap (λ (hs : List LogEntry). hs ++ logged (flight_in p.first sent) f.silent) p.first_logged
+          ∙ (ap (λ (hs : List LogEntry). all_tell side said ++ hs) f.silent_logs ∙ append-nil (all_tell side said)));
+      block_logs = ap (λ (z : Flight). logged_at z block) same ∙ ap (logged_at before) (sym b.is) ∙ f.one_logs;
+      behind_logs = ap (λ (z : Flight). logged z f.behind)
+          (sym (flight_more first (block ∷ []) sent) ∙ ap (flight_behind block) same)
+          ∙ (ap (λ (one : Record). logged (flight_behind one before) f.behind) (sym b.is) ∙ f.behind_logs);
+    }

@@ -1,6 +1,7 @@
--- The events that records tell of a side's end are those that they log of it, and no block comes where none is logged.
+-- The events that records tell of a side's end are those that they log of it, and no block comes, or is built anew,
+-- where none is logged.
 use Rattle.std.proofs.Common.{◌≡◌, Bool, true, false, not, ◌&&◌, if◌then◌else◌, List, [], ◌∷◌, ◌++◌}
-use Rattle.std.proofs.Common.{append_assoc, refl, ap, sym, ◌∙◌}
+use Rattle.std.proofs.Common.{append_assoc, refl, ap, sym, subst, ◌∙◌}
 use Rattle.std.specs.List.{AllByRecursion}
 use Rattle.air_record.specs.declared.record.Arrived.TheVariants.{Got}
 use Rattle.air_record.specs.declared.record.Record.{Record}
@@ -11,9 +12,11 @@ use Rattle.l2_types.specs.declared.side.Side.{Side}
 use Rattle.l2_types.specs.declared.side.Side.TheVariants.{Nb, Ue}
 use Rattle.promises.specs.Events.{is_of_loop}
 use Rattle.promises.specs.Records.{events_of, event_of, is_got}
+use Rattle.law_deliver.proofs.AmFlow.Carrying.{front, rest}
 use Rattle.law_given.proofs.GivenRecords.{BringsNoBlock}
 use Rattle.law_run.specs.TwoEnds.Logs.{LogEntry, Tells, Builds, Hears, Flight, flight_behind, logged_at, logged}
 use Rattle.law_run.specs.TwoEnds.Logs.{all_tell}
+use Rattle.law_sound.specs.NamedSteps.{SendsNoNewBlock}
 
 -- ---- of a log
 
@@ -78,6 +81,17 @@ records_events side sent (one ∷ xs) =
     by (records.Air direction what heard) = none_heard side (is_got what) _ refl
     by one = refl
 
+-- ---- each record is as what it logs
+
+pub as_logged : (Entry : LogEntry → Type 0) (Of : Record → Type 0)
+    → ((sent : Flight) (one : Record) → AllByRecursion Entry (logged_at sent one) → Of one)
+    → (sent : Flight) (xs : List Record) → AllByRecursion Entry (logged sent xs) → AllByRecursion Of xs
+as_logged Entry Of by sent [] h = tt
+as_logged Entry Of by sent (one ∷ xs) h =
+    let now = logged_at sent one in
+    let later = logged (flight_behind one sent) xs in
+    (by sent one (front Entry now later h), as_logged Entry Of by (flight_behind one sent) xs (rest Entry now later h))
+
 -- ---- no block comes
 
 abbrev pub HearsNone : LogEntry → Type 0
@@ -88,21 +102,32 @@ pub tells_hear_none : (side : Side) (es : List Event) → AllByRecursion HearsNo
 tells_hear_none side [] = tt
 tells_hear_none side (e ∷ es) = (tt, tells_hear_none side es)
 
-front_hears : (xs ys : List LogEntry) → AllByRecursion HearsNone (xs ++ ys) → AllByRecursion HearsNone ys
-front_hears [] ys h = h
-front_hears (x ∷ xs) ys h = front_hears xs ys h.1
-
 pub none_comes_in : (sent : Flight) (xs : List Record) → AllByRecursion HearsNone (logged sent xs)
     → AllByRecursion BringsNoBlock xs
-none_comes_in sent [] h = tt
-none_comes_in sent (records.Air direction Got heard ∷ xs) h = absurd h.0
-none_comes_in sent (one ∷ xs) h = (
-  by one h,
-  none_comes_in (flight_behind one sent) xs
-      (front_hears (logged_at sent one) (logged (flight_behind one sent) xs) h),
-)
+none_comes_in = as_logged HearsNone BringsNoBlock (λ sent one h. by sent one h)
   where
-    by : (one : Record) → AllByRecursion HearsNone (logged_at sent one ++ logged (flight_behind one sent) xs)
-        → BringsNoBlock one
-    by (records.Air direction Got heard) h = absurd h.0
-    by one h = tt
+    by : (sent : Flight) (one : Record) → AllByRecursion HearsNone (logged_at sent one) → BringsNoBlock one
+    by sent (records.Air direction Got heard) h = absurd h.0
+    by sent one h = tt
+
+-- ---- no new block is built
+
+abbrev pub IsUnbuilt : LogEntry → Type 0
+IsUnbuilt (Builds own process octets) = ⊥
+IsUnbuilt x = Unit {0}
+
+pub tells_unbuilt : (side : Side) (es : List Event) → AllByRecursion IsUnbuilt (all_tell side es)
+tells_unbuilt side [] = tt
+tells_unbuilt side (e ∷ es) = (tt, tells_unbuilt side es)
+
+pub none_sent_anew : (sent : Flight) (xs : List Record) → AllByRecursion IsUnbuilt (logged sent xs)
+    → AllByRecursion SendsNoNewBlock xs
+none_sent_anew = as_logged IsUnbuilt SendsNoNewBlock (λ sent one h. by sent one h)
+  where
+    by : (sent : Flight) (one : Record) → AllByRecursion IsUnbuilt (logged_at sent one) → SendsNoNewBlock one
+    by sent (records.Block direction process true version octets) h = absurd h.0
+    by sent one h = tt
+
+-- of records that log nothing
+pub none_sent : (sent : Flight) (xs : List Record) → logged sent xs ≡ [] → AllByRecursion SendsNoNewBlock xs
+none_sent sent xs logs = none_sent_anew sent xs (subst (AllByRecursion IsUnbuilt) (sym logs) tt)

@@ -1,6 +1,6 @@
 -- A new block is canonical for what is read in it, and its SDUs are the PDUs that its end tells of.
 use Rattle.std.proofs.Common.{◌≡◌, ℕ, zero, suc, Option, Some, None, List, [], ◌∷◌, ◌++◌, map, replicate}
-use Rattle.std.proofs.Common.{Bool, refl, ap, sym, subst, ◌∙◌}
+use Rattle.std.proofs.Common.{length, Bool, Ok, refl, ap, sym, subst, ◌∙◌}
 use Rattle.std.specs.Prelude.{slice_index_or}
 use Rattle.bearer_types.specs.Sides.{sent_by}
 use Rattle.harq.specs.declared.sender.Order.{Order}
@@ -20,8 +20,9 @@ use Rattle.mac_pdu.specs.Writing.{canonical}
 use Rattle.pdu_show.specs.declared.kinds.Layout.{Layout}
 use Rattle.promises.specs.Built.{reported}
 use Rattle.promises.specs.Names.{SentPdu, sent_pdus, Mode, IsNamed, AreNamed}
-use Rattle.promises.specs.RightForm.{controls_in, sdus_in, unpadded, known_mode, mode_of, Carries}
+use Rattle.promises.specs.RightForm.{controls_in, sdus_in, unpadded, known_mode, mode_of}
 use Rattle.promises.specs.Shown.{IsKnownAs, AreKnown}
+use Rattle.law_deliver.specs.AmFlow.Air.{HasCome}
 use Rattle.law_node.specs.Blocks.{report, all_sdus}
 use Rattle.law_node.specs.Calls.{Turn, Call, Visits, IsGiven, AreGiven, reached}
 use Rattle.law_node.specs.Names.{modes_of}
@@ -33,7 +34,7 @@ use Rattle.law_sound.specs.NamedSteps.{NewBlocksHaveForm}
 
 -- ---- what is in items, but for padding
 
-abbrev Hold : List MacItem → List Control → List Sdu → Type 0
+abbrev pub Hold : List MacItem → List Control → List Sdu → Type 0
 Hold items controls sdus = (controls_in items ≡ controls) × (sdus_in items ≡ sdus)
 
 padding_holds : (ends : List ℕ) → Hold (map padding ends) [] []
@@ -51,10 +52,10 @@ report_holds None sdus ends = sdus_hold sdus ends
 report_holds (Some b) sdus ends =
     let h = sdus_hold sdus ends in (ap (λ (cs : List Control). control.Report b ∷ cs) h.0, h.1)
 
-abbrev items_of : ℕ → Option Bsr → List Sdu → List ℕ → List MacItem
+abbrev pub items_of : ℕ → Option Bsr → List Sdu → List ℕ → List MacItem
 items_of fronts r sdus ends = replicate fronts front ++ ((reported r ++ map sdu_item sdus) ++ map padding ends)
 
-items_hold : (fronts : ℕ) (r : Option Bsr) (sdus : List Sdu) (ends : List ℕ)
+pub items_hold : (fronts : ℕ) (r : Option Bsr) (sdus : List Sdu) (ends : List ℕ)
     → Hold (items_of fronts r sdus ends) (controls_in (reported r)) sdus
 items_hold zero r sdus ends = report_holds r sdus ends
 items_hold (suc fronts) r sdus ends = items_hold fronts r sdus ends
@@ -99,12 +100,18 @@ known_visited kinds tti order e known = known
 
 -- ---- a block of any end
 
-reached_form : (kinds : List (Option Layout)) (side : Side) (maximum : ℕ) (reports : Bool) (past : List Call) (t : Turn)
-    → AreGiven past → IsGiven (Visits t) → visit t.tti t.order (reached side maximum reports past) ≡ New
-    → AreKnown kinds (modes_of (reached side maximum reports past))
-    → Carries (sent_by side) kinds (sent_pdus (told_of (reached side maximum reports past) (Visits t)))
-    (new_block (visited t.tti t.order (reached side maximum reports past)) t.grant)
-reached_form kinds side maximum reports past t g given new known =
+-- it is canonical for what is read in it, which is what the end tells of, in the modes of its bearers
+pub record IsFormed (side : Side) (e : End) (t : Turn) : Type 0 where
+  pub items : List MacItem
+  pub read : reading (sent_by side) (new_block (visited t.tti t.order e) t.grant) ≡ Ok items
+  pub writing_is : new_block (visited t.tti t.order e) t.grant
+      ≡ canonical (unpadded items) (length (new_block (visited t.tti t.order e) t.grant))
+  pub named : AreNamed (modes_of (visited t.tti t.order e)) (sent_pdus (told_of e (Visits t))) (sdus_in items)
+
+reached_form : (side : Side) (maximum : ℕ) (reports : Bool) (past : List Call) (t : Turn) → AreGiven past
+    → IsGiven (Visits t) → visit t.tti t.order (reached side maximum reports past) ≡ New
+    → IsFormed side (reached side maximum reports past) t
+reached_form side maximum reports past t g given new =
     let e = reached side maximum reports past in
     let v = visited t.tti t.order e in
     let sdus = all_sdus v t.grant v.buckets.channels in
@@ -121,15 +128,23 @@ reached_form kinds side maximum reports past t g given new known =
       writing_is = b.writing_is
           ∙ (ap (λ (xs : List MacItem). canonical xs t.grant) (sym (unpadded_are items r sdus h))
           ∙ ap (canonical (unpadded items)) (sym b.size_is));
-      named = subst (AreNamed (mode_of kinds) (sent_pdus (told_of e (Visits t)))) (sym h.1)
-          (all_known kinds (modes_of v) (sent_pdus (told_of e (Visits t))) sdus
-          (known_visited kinds t.tti t.order e known)
-          (names_what_it_sends side maximum reports past g t.tti t.grant t.order new));
+      named = subst (AreNamed (modes_of v) (sent_pdus (told_of e (Visits t)))) (sym h.1)
+          (names_what_it_sends side maximum reports past g t.tti t.grant t.order new);
     }
+
+pub new_block_formed : (side : Side) (e : End) (t : Turn) → HasCome side e → IsGiven (Visits t)
+    → visit t.tti t.order e ≡ New → IsFormed side e t
+new_block_formed side e t come given new =
+    subst (λ (x : End). visit t.tti t.order x ≡ New → IsFormed side x t) (sym come.end_is)
+    (reached_form side come.maximum come.reports come.past t come.given given) new
 
 pub new_blocks_have_form : NewBlocksHaveForm
 new_blocks_have_form kinds side e t come given new known =
-    subst (λ (x : End). visit t.tti t.order x ≡ New → AreKnown kinds (modes_of x)
-    → Carries (sent_by side) kinds (sent_pdus (told_of x (Visits t))) (new_block (visited t.tti t.order x) t.grant))
-    (sym come.end_is)
-    (reached_form kinds side come.maximum come.reports come.past t come.given given) new known
+    let f = new_block_formed side e t come given new in
+    record {
+      items = f.items;
+      read = f.read;
+      writing_is = f.writing_is;
+      named = all_known kinds (modes_of (visited t.tti t.order e)) (sent_pdus (told_of e (Visits t))) (sdus_in f.items)
+          (known_visited kinds t.tti t.order e known) f.named;
+    }

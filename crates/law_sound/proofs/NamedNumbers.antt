@@ -1,26 +1,20 @@
 -- Only a record of a new block writes numbers, and an end tells of its PDUs by numbers from VT(S) on.
-use Rattle.std.proofs.Common.{◌≡◌, ◌≤◌, ℕ, ◌+◌, ◌==◌, Bool, true, false, if◌then◌else◌, Option, Some, None, List, []}
-use Rattle.std.proofs.Common.{◌∷◌, length, refl, ap, sym, subst, ◌∙◌, arith}
-use Rattle.std.specs.List.{AllByRecursion}
-use Rattle.std.specs.Prelude.{slice_index_or}
+use Rattle.std.proofs.Common.{◌≡◌, ◌≤◌, ℕ, ◌+◌, Bool, true, false, if◌then◌else◌, Option, List, []}
+use Rattle.std.proofs.Common.{◌∷◌, refl, ap, sym, subst, ◌∙◌, arith}
 use Rattle.air_record.specs.declared.record.Record.{Record}
 use Rattle.air_record.specs.declared.record.Record.TheVariants as records
 use Rattle.bearer.specs.declared.flow.Flow.{Flow}
 use Rattle.bearer.specs.declared.flow.Flow.TheVariants.{Am}
 use Rattle.bearer_types.specs.Sides.{other, sender_of}
 use Rattle.bearer_types.specs.declared.event.Event.{Event}
-use Rattle.bearer_types.specs.declared.event.Event.TheVariants as events
 use Rattle.l2_node.specs.End.{End}
 use Rattle.l2_node.specs.Finding.{has}
 use Rattle.l2_types.specs.declared.AmRxConfig.{AmRxConfig}
 use Rattle.l2_types.specs.declared.config.AmTxConfig.{AmTxConfig}
-use Rattle.l2_types.specs.declared.event.Clock.TheVariants.{Poll, Reorder, Prohibit}
 use Rattle.l2_types.specs.declared.side.Side.{Side}
 use Rattle.l2_types.specs.declared.side.Side.TheVariants.{Nb, Ue}
 use Rattle.mac_pdu.specs.declared.item.Direction.TheVariants as directions
-use Rattle.pdcp_pdu.specs.declared.pdu.PdcpKind.TheVariants as pdcp
 use Rattle.pdu_show.specs.declared.kinds.Layout.{Layout}
-use Rattle.pdu_show.specs.declared.kinds.Layout.TheVariants as layouts
 use Rattle.promises.specs.Events.{told_on}
 use Rattle.promises.specs.Names.{sent_pdus}
 use Rattle.promises.specs.Records.{is_got}
@@ -30,16 +24,13 @@ use Rattle.rlc_am_tx_window.specs.Window.{TxWindow, next}
 use Rattle.rlc_pdu.specs.declared.constants.TheConstants.{AM_WINDOW_SIZE}
 use Rattle.journal_account.specs.FlowEvents.{FlowEvent, SduTaken, OctetsArrived, StatusHeard, PollExpired, size_in}
 use Rattle.journal_account.specs.FlowEvents.{ReorderStarted, ReorderExpired, next_of}
-use Rattle.journal_lives.specs.LifeEvents.{LifeEvent, PduGiven, InLife, running}
-use Rattle.journal_um.specs.UmEvents.{UmEvent}
-use Rattle.journal_um.specs.UmEvents as um
+use Rattle.journal_lives.specs.LifeEvents.{LifeEvent, InLife, running}
 use Rattle.journal_flows.specs.declared.parcels.Parcel.{Parcel}
 use Rattle.journal_flows.specs.declared.parcels.Parcel.TheVariants.{Octets, Pieces, Report}
-use Rattle.journal_flows.specs.FlowsTold.{Histories, histories, is_at, with_told}
-use Rattle.journal_flows.specs.Gathering.{Journal, sending_of, all_told, taken_as, report_as, reorder_as, told_by}
+use Rattle.journal_flows.specs.FlowsTold.{Histories, histories}
+use Rattle.journal_flows.specs.Gathering.{Journal, sending_of, all_told}
 use Rattle.journal_flows.specs.Gathering.{all_come, sent_last, behind_landing, behind_record}
-use Rattle.journal_flows.specs.NumberedPdus.{Told, told, come_as}
-use Rattle.journal_flows.specs.Possible.{is_possible}
+use Rattle.journal_flows.specs.NumberedPdus.{come_as}
 use Rattle.law_account.specs.History.{Follows}
 use Rattle.law_account.proofs.History.{next_is}
 use Rattle.law_deliver.specs.AmFlow.Channels.{GoesOnInLife, calls_of}
@@ -55,110 +46,32 @@ use Rattle.law_run.proofs.Numbering.{calls_number}
 use Rattle.law_sound.specs.LivedFails.{HasComeNew}
 use Rattle.law_sound.specs.NamedSteps.{SendsNoNewBlock, OtherRecordsWriteNone, CallsAreNumbered}
 use Rattle.law_sound.proofs.CarriedBlocks.{as_long}
+use Rattle.law_sound.proofs.KeptFlows.{AreKeeping, StaysOver, all_keep, own_record_keeps, told_keeps}
 use Rattle.law_sound.proofs.LivedFails.{stands_new, lived_there}
-use Rattle.law_sound.proofs.OtherRecords.{flows_behind}
 
 -- ---- what writes no number, of any flow
 
-abbrev StaysNext : LifeEvent → Type 0
-StaysNext e = (es : List LifeEvent) → next_of (running (e ∷ es)) ≡ next_of (running es)
+abbrev next_in : List LifeEvent → ℕ
+next_in es = next_of (running es)
 
-abbrev KeepsNext : Told → Type 0
-KeepsNext t = (side : Side) (l : ℕ) (h : Histories)
-    → next_of (running ((with_told t h).acked side l)) ≡ next_of (running (h.acked side l))
-
-abbrev AreKeeping : List Told → Type 0
-AreKeeping ts = AllByRecursion KeepsNext ts
-
-given_stays : (count : Option ℕ) (size : ℕ) → StaysNext (PduGiven count size)
-given_stays count size es = as_long (SduTaken size) (running es) refl
-
-event_stays : (e : FlowEvent) → size_in e ≡ [] → StaysNext (InLife e)
+event_stays : (e : FlowEvent) → size_in e ≡ [] → StaysOver next_in (InLife e)
 event_stays e none es = as_long e (running es) none
-
-told_keeps : (from : Side) (lcid : ℕ) (e : LifeEvent) → StaysNext e → AreKeeping (told from lcid e)
-told_keeps from lcid e stays = (
-  λ side l h.
-      by (is_at from lcid side l) (is_possible (next_of (running (h.acked side l))) e) (h.acked side l),
-  tt,
-)
-  where
-    by : (here can : Bool) (es : List LifeEvent)
-        → next_of (running (if here then (if can then e ∷ es else es) else es)) ≡ next_of (running es)
-    by true true es = stays es
-    by true false es = refl
-    by false can es = refl
-
--- ---- what happens at an end
-
-taken_keeps : (x : Option Layout) (side : Side) (lcid : ℕ) (count : Option ℕ) (len : ℕ)
-    → AreKeeping (taken_as x side lcid count len)
-taken_keeps (Some (layouts.Am pdcp.Srb)) side lcid count len =
-    told_keeps side lcid (PduGiven None (len + 5)) (given_stays None (len + 5))
-taken_keeps (Some (layouts.Am (pdcp.Um bits))) side lcid count len =
-    told_keeps side lcid (PduGiven count (len + 2)) (given_stays count (len + 2))
-taken_keeps (Some (layouts.Am (pdcp.Am bits))) side lcid count len =
-    told_keeps side lcid (PduGiven count (len + 2)) (given_stays count (len + 2))
-taken_keeps (Some (layouts.Um rlc (pdcp.Um bits))) side lcid count len = (λ s l h. refl, tt)
-taken_keeps (Some (layouts.Um rlc pdcp.Srb)) side lcid count len = tt
-taken_keeps (Some (layouts.Um rlc (pdcp.Am bits))) side lcid count len = tt
-taken_keeps (Some layouts.Tm) side lcid count len = tt
-taken_keeps None side lcid count len = tt
-
-report_keeps : (x : Option Layout) (side : Side) (lcid len : ℕ) → AreKeeping (report_as x side lcid len)
-report_keeps (Some (layouts.Am pdcp.Srb)) side lcid len = tt
-report_keeps (Some (layouts.Am (pdcp.Um bits))) side lcid len = tt
-report_keeps (Some (layouts.Am (pdcp.Am bits))) side lcid len =
-    told_keeps side lcid (PduGiven None ((if bits == 12 then 2 else 3) + len))
-    (given_stays None ((if bits == 12 then 2 else 3) + len))
-report_keeps (Some (layouts.Um rlc kind)) side lcid len = tt
-report_keeps (Some layouts.Tm) side lcid len = tt
-report_keeps None side lcid len = tt
-
-reorder_keeps : (x : Option Layout) (side : Side) (lcid : ℕ) (e : FlowEvent) (u : UmEvent) → size_in e ≡ []
-    → AreKeeping (reorder_as x side lcid e u)
-reorder_keeps (Some (layouts.Am kind)) side lcid e u none = told_keeps side lcid (InLife e) (event_stays e none)
-reorder_keeps (Some (layouts.Um rlc kind)) side lcid e u none = (λ s l h. refl, tt)
-reorder_keeps (Some layouts.Tm) side lcid e u none = told_keeps side lcid (InLife e) (event_stays e none)
-reorder_keeps None side lcid e u none = told_keeps side lcid (InLife e) (event_stays e none)
-
-event_keeps : (kinds : List (Option Layout)) (more : Bool) (side : Side) (e : Event)
-    → AreKeeping (told_by kinds more side e)
-event_keeps kinds more side (events.Take lcid count len) =
-    taken_keeps (slice_index_or kinds lcid None) side lcid count len
-event_keeps kinds more side (events.Report lcid fms bitmap) =
-    report_keeps (slice_index_or kinds lcid None) side lcid (length bitmap)
-event_keeps kinds more side (events.Start lcid Reorder) =
-    reorder_keeps (slice_index_or kinds lcid None) (other side) lcid ReorderStarted um.ReorderStarted refl
-event_keeps kinds more side (events.Start lcid Poll) = tt
-event_keeps kinds more side (events.Start lcid Prohibit) = tt
-event_keeps kinds more side (events.Expired lcid Reorder) =
-    reorder_keeps (slice_index_or kinds lcid None) (other side) lcid ReorderExpired um.ReorderExpired refl
-event_keeps kinds more side (events.Expired lcid Poll) =
-    told_keeps side lcid (InLife (PollExpired more)) (event_stays (PollExpired more) refl)
-event_keeps kinds more side (events.Expired lcid Prohibit) = tt
-event_keeps kinds more side e = tt
-
-all_keep : (ts : List Told) → AreKeeping ts → (side : Side) (l : ℕ) (h : Histories)
-    → next_of (running ((all_told histories ts h).acked side l)) ≡ next_of (running (h.acked side l))
-all_keep [] keep side l h = refl
-all_keep (t ∷ ts) keep side l h = all_keep ts keep.1 side l (with_told t h) ∙ keep.0 side l h
 
 -- ---- a block is got
 
-parcel_keeps : (from : Side) (p : Parcel) → AreKeeping (come_as from p)
+parcel_keeps : (from : Side) (p : Parcel) → AreKeeping next_in (come_as from p)
 parcel_keeps from (Octets lcid n start end) =
-    told_keeps from lcid (InLife (OctetsArrived n start end)) (event_stays (OctetsArrived n start end) refl)
+    told_keeps next_in from lcid (InLife (OctetsArrived n start end)) (event_stays (OctetsArrived n start end) refl)
 parcel_keeps from (Pieces lcid n size pieces) = (λ s l h. refl, tt)
 parcel_keeps from (Report lcid ack entries) =
-    told_keeps (other from) lcid (InLife (StatusHeard ack entries)) (event_stays (StatusHeard ack entries) refl)
+    told_keeps next_in (other from) lcid (InLife (StatusHeard ack entries)) (event_stays (StatusHeard ack entries) refl)
 
 landing_keeps : (from : Side) (ps : List Parcel) (side : Side) (l : ℕ) (h : Histories)
     → next_of (running ((all_come histories from ps h).acked side l)) ≡ next_of (running (h.acked side l))
 landing_keeps from [] side l h = refl
 landing_keeps from (p ∷ ps) side l h =
     landing_keeps from ps side l (all_told histories (come_as from p) h)
-    ∙ all_keep (come_as from p) (parcel_keeps from p) side l h
+    ∙ all_keep next_in (come_as from p) (parcel_keeps from p) side l h
 
 -- ---- a record
 
@@ -167,8 +80,9 @@ record_keeps : (kinds : List (Option Layout)) (more : Bool) (one : Record) (side
     → next_of (running ((behind_record histories kinds more one j).flows.acked side l))
     ≡ next_of (running (j.flows.acked side l))
 record_keeps kinds more (records.Of own e) side l j none =
-    ap (λ (h : Histories). next_of (running (h.acked side l))) (flows_behind kinds more own e j)
-    ∙ all_keep (told_by kinds more own e) (event_keeps kinds more own e) side l j.flows
+    own_record_keeps next_in (λ count size es. as_long (SduTaken size) (running es) refl)
+    (λ again. event_stays (PollExpired again) refl) (event_stays ReorderStarted refl) (event_stays ReorderExpired refl)
+    kinds more own e side l j
 record_keeps kinds more (records.Block direction process true rv octets) side l j none = absurd none
 record_keeps kinds more (records.Block directions.Down process false rv octets) side l j none = refl
 record_keeps kinds more (records.Block directions.Up process false rv octets) side l j none = refl

@@ -29,7 +29,7 @@ use Rattle.journal_form.proofs.Units.{all_told, complete, sound}
 use Rattle.journal_flows.specs.FlowsTold.{Histories}
 use Rattle.journal_flows.specs.Gathering.{Journal, sending_of}
 use Rattle.law_run.specs.TwoEnds.Along.{at_side}
-use Rattle.law_run.specs.TwoEnds.Logs.{LogEntry, Hears, Flight, process_of, flight_behind, logged, logged_at, flight_in}
+use Rattle.law_run.specs.TwoEnds.Logs.{Hears, Flight, process_of, flight_behind, logged, logged_at, flight_in}
 use Rattle.law_run.specs.TwoEnds.Logs.{all_tell, log_by, log_at, log_of, log_come}
 use Rattle.law_run.specs.TwoEnds.Logs.{Builds as EndBuilds}
 use Rattle.law_run.specs.TwoEnds.Staying.{AreInLife}
@@ -39,7 +39,7 @@ use Rattle.law_sound.specs.BesideSteps.{OfTti}
 use Rattle.law_sound.specs.LivedHistories.{AreLived, Moment, GoOver}
 use Rattle.law_sound.specs.StepReading.{HasCountOn, IsRead}
 use Rattle.law_sound.specs.StepReading.{IsFlightOf, StepsAreRead}
-use Rattle.law_sound.proofs.LogEntries.{logs_split, first_entry, entry_is}
+use Rattle.law_sound.proofs.LogEntries.{block_in, logs_split, first_entry, entry_is}
 use Rattle.law_sound.proofs.StepLogs.{none_named, going_comes, none_comes, resends_none, silent_none}
 use Rattle.law_sound.proofs.StepLogs.{next}
 use Rattle.law_sound.proofs.StepReads.{Reads, both_truly, both_read, silent_read, step_read}
@@ -50,7 +50,6 @@ use Rattle.law_sound.specs.BesideLaws.{ReadRecord}
 use Rattle.law_sound.proofs.StepActs.{call_read, rest_read, got_read, built_read}
 use Rattle.law_sound.proofs.StepNames.{processes_known, told_more}
 use Rattle.law_sound.proofs.StepRecords.{building_log}
-use Rattle.law_run.proofs.TwoEnds.Along.{flight_more, logged_more}
 
 -- ---- any records of a step
 
@@ -121,39 +120,22 @@ module _ (kinds : List (Option Layout)) (kind : PdcpKind) (l : ℕ)
       let octets = octets_of (station_of side a) x bs in
       let log : logged sent told ≡ all_tell side said ++ EndBuilds side process octets ∷ [] =
       logs ∙ (ap (log_by side o e) bs.is ∙ building_log side 0 e bs.turn bs.new) in
-      let p = logs_split told sent (all_tell side said) (EndBuilds side process octets ∷ []) log in
-      let f = first_entry p.behind (flight_in p.first sent) (EndBuilds side process octets) [] p.behind_logged in
-      let xs = p.first ++ f.silent in
-      let before = flight_in f.silent (flight_in p.first sent) in
-      let same : flight_in xs sent ≡ before = sym (flight_more p.first f.silent sent) in
-      let b = entry_is before f.one (EndBuilds side process octets) f.one_logs in
-      let block = records.Block (sent_by side) process true b.version octets in
-      let tells : logged sent xs ≡ all_tell side said =
-      logged_more sent p.first f.silent
-      ∙ (ap (λ (hs : List LogEntry). hs ++ logged (flight_in p.first sent) f.silent) p.first_logged
-      ∙ (ap (λ (hs : List LogEntry). all_tell side said ++ hs) f.silent_logs ∙ append-nil (all_tell side said))) in
-      let told_is : told ≡ (xs ++ block ∷ []) ++ f.behind =
-      p.told_is
-      ∙ (ap (λ (zs : List Record). p.first ++ zs) (f.told_is ∙ ap (λ (one : Record). f.silent ++ one ∷ f.behind) b.is)
-      ∙ (sym (append_assoc p.first f.silent (block ∷ f.behind)) ∙ sym (append_assoc xs (block ∷ []) f.behind))) in
-      let last : logged_at (flight_in xs sent) block ≡ EndBuilds side process octets ∷ [] =
-      ap (λ (z : Flight). logged_at z block) same ∙ (ap (logged_at before) (sym b.is) ∙ f.one_logs) in
+      let p = block_in side process octets said sent told log in
+      let xs = p.first in
+      let block = records.Block (sent_by side) process true p.version octets in
+      let told_is : told ≡ (xs ++ block ∷ []) ++ p.behind = p.told_is ∙ sym (append_assoc xs (block ∷ []) p.behind) in
       let counts = front (HasCountOn kind l) xs (block ∷ [])
-      (front (HasCountOn kind l) (xs ++ block ∷ []) f.behind
+      (front (HasCountOn kind l) (xs ++ block ∷ []) p.behind
       (subst (AllByRecursion (HasCountOn kind l)) told_is has)) in
-      let now : (ends (all_told side kinds (xs ++ block ∷ (f.behind ++ others)) none_named)).right ≡ true =
+      let now : (ends (all_told side kinds (xs ++ block ∷ (p.behind ++ others)) none_named)).right ≡ true =
       ap (λ (zs : List Record). (ends (all_told side kinds zs none_named)).right)
       (sym (ap (λ (zs : List Record). zs ++ others) told_is
-      ∙ (append_assoc (xs ++ block ∷ []) f.behind others ∙ append_assoc xs (block ∷ []) (f.behind ++ others))))
+      ∙ (append_assoc (xs ++ block ∷ []) p.behind others ∙ append_assoc xs (block ∷ []) (p.behind ++ others))))
       ∙ right side in
-      let none : logged (flight_in (xs ++ block ∷ []) sent) f.behind ≡ [] =
-      ap (λ (z : Flight). logged z f.behind)
-      (sym (flight_more xs (block ∷ []) sent) ∙ ap (flight_behind block) same)
-      ∙ (ap (λ (one : Record). logged (flight_behind one before) f.behind) (sym b.is) ∙ f.behind_logs) in
       subst (Reads a kinds kind l j (happens a (at_side side x)) (next l a m (at_side side x) r.lived)) (sym told_is)
-      (before_silent (xs ++ block ∷ []) f.behind _ _
+      (before_silent (xs ++ block ∷ []) p.behind _ _
       (built_read kinds kind l known a m sent j r side x bs xs
-      (f.behind ++ others) b.version done counts tells now last) none)
+      (p.behind ++ others) p.version done counts p.first_logs now p.block_logs) p.behind_logs)
 
   -- an act of a side
   side_read : (side : Side) (x : Act) (told others : List Record) → IsDone l (station_of side a) x

@@ -33,3 +33,4 @@ pub mod StepReading
 pub mod GroupReading
 pub mod ElsewhereLaws
 pub mod AgreeLaws
+pub mod SentData

@@ -1,6 +1,6 @@
 -- How the run of a script tells of its flows, and so what it hands up of acknowledged data, what
--- RLC takes of it, when its flows fail, and what its STATUS PDUs say: of each journal as it is
--- promised of every script.
+-- RLC takes of it, what its data PDUs carry, when its flows fail, and what its STATUS PDUs say: of
+-- each journal as it is promised of every script.
 use Rattle.std.specs.Prelude.{◌≡◌, ℕ, Bool, false, List}
 use Rattle.air_run.specs.Journal.{RunPlayed}
 use Rattle.promises.specs.Delivery.{is_forged}
@@ -13,6 +13,7 @@ use Rattle.journal_status.specs.RightStatus.{StatusIsRight}
 use Rattle.journal_delivered.specs.RightDelivery.{DeliveredIsRight}
 use Rattle.law_run.specs.Promises.{IsPromised}
 use Rattle.law_sound.specs.ComingLaws.{TellsFlows}
+use Rattle.law_sound.specs.SentData.{DataIsSent, DataIsShaped}
 
 abbrev pub RunsTellFlows : Type 0
 RunsTellFlows =
@@ -35,6 +36,11 @@ abbrev pub RunsTakeRightly : Type 0
 RunsTakeRightly =
     (whole : Bool) (octets : List ℕ) (played : RunPlayed) (p : IsPromised whole octets played)
     → is_forged p.past ≡ false → TakesAreRight p.past
+
+abbrev pub RunsSendRightly : Type 0
+RunsSendRightly =
+    (whole : Bool) (octets : List ℕ) (played : RunPlayed) (p : IsPromised whole octets played)
+    → is_forged p.past ≡ false → DataIsSent p.past × DataIsShaped p.past
 
 -- an SDU may be taken as t-PollRetransmit expires, by what the journal tells
 abbrev pub RunsFailRightly : Type 0

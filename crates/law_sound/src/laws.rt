@@ -40,7 +40,7 @@ ghost use Rattle.law_sound.specs.SduLaws.{TakenAreTold};
 ghost use Rattle.law_sound.specs.AirSending.{EndsSendByAir};
 ghost use Rattle.law_sound.specs.FailLaws.{LogsGoOn, ReceiversFailNone, FailsJoin};
 ghost use Rattle.law_sound.specs.RunLaws.{RunsTellFlows, RunsDeliver, RunsReportTruly};
-ghost use Rattle.law_sound.specs.RunLaws.{RunsTakeRightly, RunsFailRightly};
+ghost use Rattle.law_sound.specs.RunLaws.{RunsTakeRightly, RunsSendRightly, RunsFailRightly};
 ghost use Rattle.law_sound.specs.AlikeLaws.{AlikeLivesRunAlike, AlikeHistoriesTellAlike};
 ghost use Rattle.law_sound.specs.AlikeLaws.{AlikeJournalsGoOnAlike, JournalsAreAlike};
 ghost use Rattle.law_sound.specs.AlikeLaws.{StatusNeedsNoFlags};
@@ -388,6 +388,14 @@ pub fn runs_report_truly()
 /// each report is the one that is takeable next (TS 36.323 5.1.1, 5.2.1.1, 5.3.1, 5.4).
 pub fn runs_take_rightly()
     ensures { RunsTakeRightly }
+{}
+
+/// So are the data PDUs that its new blocks carry of it: each that is sent for the first time
+/// carries the octets that come next of the PDUs that PDCP gives RLC, and each that is sent again
+/// octets of its number, which isn't acknowledged; framing info, LIs, SNs and LSFs say where these
+/// octets stand (TS 36.322 5.1.3.1.1, 5.2.1, 6.2.2.4 to 6.2.2.8, TS 36.323 5.1.1).
+pub fn runs_send_rightly()
+    ensures { RunsSendRightly }
 {}
 
 /// So are the `fail` records of its flows: a sender tells once of each number that is sent more

@@ -16,6 +16,7 @@ pub use laws::{
     new_pdus_are_gathered, numbers_are_given, others_tell_none, records_go_on,
     records_name_the_log, records_stay_beside, records_tell_the_log, reorderings_are_events,
     reorderings_are_gathered, reports_are_gathered, runs_deliver, runs_fail_rightly,
-    runs_report_truly, runs_take_rightly, runs_tell_flows, same_counts_come, status_needs_no_flags,
-    statuses_are_gathered, steps_are_read, taken_are_told, true_status_is_gathered,
+    runs_report_truly, runs_send_rightly, runs_take_rightly, runs_tell_flows, same_counts_come,
+    status_needs_no_flags, statuses_are_gathered, steps_are_read, taken_are_told,
+    true_status_is_gathered,
 };
