@@ -2,14 +2,12 @@
 -- so along records that tell of a step not more are told of than were ignored.
 use Rattle.std.proofs.Common.{◌≡◌, ◌≤◌, ℕ, ◌+◌, ◌==◌, ◌&&◌, Bool, true, false, if◌then◌else◌, List, []}
 use Rattle.std.proofs.Common.{◌∷◌, ◌++◌, Option, Some, None, length, append-nil, refl, ap, ◌∙◌, arith}
-use Rattle.std.specs.Prelude.{slice_index_or}
 use Rattle.std.specs.List.{AllByRecursion, filter}
 use Rattle.air_record.specs.declared.record.Record.{Record}
 use Rattle.air_record.specs.declared.record.Record.TheVariants as records
 use Rattle.bearer_types.specs.declared.event.Event.{Event}
 use Rattle.bearer_types.specs.declared.event.Event.TheVariants as events
 use Rattle.bearer_types.specs.Sides.{is_same, sender_of, other, sent_by, heard_by}
-use Rattle.l2_types.specs.declared.event.Clock.TheVariants.{Poll, Reorder}
 use Rattle.l2_types.specs.declared.event.How.{How}
 use Rattle.l2_types.specs.declared.event.How.TheVariants as hows
 use Rattle.l2_types.specs.declared.event.Lost.TheVariants as losts
@@ -17,24 +15,21 @@ use Rattle.l2_types.specs.declared.side.Side.{Side}
 use Rattle.l2_types.specs.declared.side.Side.TheVariants.{Nb, Ue}
 use Rattle.mac_pdu.specs.declared.builder.Sdu.{Sdu}
 use Rattle.mac_pdu.specs.declared.item.Direction.TheVariants as directions
-use Rattle.pdcp_pdu.specs.declared.pdu.PdcpKind.TheVariants as pdcp
 use Rattle.pdu_show.specs.declared.kinds.Layout.{Layout}
-use Rattle.pdu_show.specs.declared.kinds.Layout.TheVariants as layouts
 use Rattle.promises.specs.Events.{is_of_loop, is_on}
 use Rattle.promises.specs.Pdus.{carried}
 use Rattle.promises.specs.Records.{is_got}
 use Rattle.journal_account.specs.Acked.{ignored_in}
-use Rattle.journal_account.specs.FlowEvents.{FlowEvent, StatusHeard}
-use Rattle.journal_lives.specs.LifeEvents.{LifeEvent, PduGiven, InLife, LifeEnded, running}
-use Rattle.journal_um.specs.UmEvents.{UmEvent}
+use Rattle.journal_account.specs.FlowEvents.{NumberWritten, OctetsResent}
+use Rattle.journal_lives.specs.LifeEvents.{LifeEvent, InLife, running}
 use Rattle.journal_flows.specs.declared.parcels.Parcel.{Parcel}
 use Rattle.journal_flows.specs.declared.parcels.Parcel.TheVariants.{Octets, Pieces, Report}
 use Rattle.journal_flows.specs.declared.sending.Named.{Named}
-use Rattle.journal_flows.specs.FlowsTold.{Histories, histories, is_at, with_told}
-use Rattle.journal_flows.specs.Gathering.{Journal, Loaded, all_told, told_by, taken_as, report_as, reorder_as}
+use Rattle.journal_flows.specs.FlowsTold.{Histories, histories}
+use Rattle.journal_flows.specs.Gathering.{Journal, Loaded}
 use Rattle.journal_flows.specs.Gathering.{parcel_of}
 use Rattle.journal_flows.specs.Gathering.{loads_parcel, loads, behind_landing, behind_record}
-use Rattle.journal_flows.specs.NumberedPdus.{AnyEvent, Acked, Unacked, Told, written_as}
+use Rattle.journal_flows.specs.NumberedPdus.{written_as}
 use Rattle.journal_status.specs.RightStatus.{tells_ignored, ignored_told}
 use Rattle.law_run.specs.TwoEnds.ChannelLog.{on_channel, on_channel_at, coming}
 use Rattle.law_run.specs.TwoEnds.Logs.{LogEntry, Tells as EndTells, Hears, Flight, process_of, flight_behind}
@@ -45,55 +40,16 @@ use Rattle.law_sound.specs.IgnoredLaws.{ignored_at, told_ignored}
 use Rattle.law_sound.specs.LoggedRecords.{records_of, IsOwn}
 use Rattle.law_sound.specs.StepReading.{ignored_so_far, AreTrueAt, TellTruly}
 use Rattle.law_sound.proofs.IgnoredLogs.{told_both, writing_none}
-use Rattle.law_sound.proofs.OtherRecords.{flows_behind}
+use Rattle.law_sound.proofs.KeptFlows.{AreKeeping, all_keep, own_record_keeps, told_keeps}
 
--- ---- an event that isn't a STATUS that comes
+-- ---- a new block, by its parcels
 
-abbrev IsUnheard : LifeEvent → Type 0
-IsUnheard (InLife (StatusHeard ack entries)) = ⊥
-IsUnheard LifeEnded = ⊥
-IsUnheard e = Unit {0}
-
-abbrev IsQuiet : AnyEvent → Type 0
-IsQuiet (Acked e) = IsUnheard e
-IsQuiet (Unacked e) = Unit {0}
-
-abbrev AreQuiet : List Told → Type 0
-AreQuiet ts = AllByRecursion (λ (t : Told). IsQuiet t.event) ts
-
-ignores_none : (e : LifeEvent) (es : List LifeEvent) → IsUnheard e
-    → ignored_in (running (e ∷ es)) ≡ ignored_in (running es)
-ignores_none (PduGiven count size) es h = refl
-ignores_none (InLife (StatusHeard ack entries)) es h = absurd h
-ignores_none (InLife e) es h = refl
-ignores_none LifeEnded es h = absurd h
+abbrev ignored_by : List LifeEvent → ℕ
+ignored_by es = ignored_in (running es)
 
 module _ (side : Side) (l : ℕ) where
   abbrev ignored_of : Histories → ℕ
-  ignored_of h = ignored_in (running (h.acked side l))
-
-  one_quiet : (t : Told) (h : Histories) → IsQuiet t.event → ignored_of (with_told t h) ≡ ignored_of h
-  one_quiet t h quiet = by t.event quiet
-    where
-      added : (e : LifeEvent) (b : Bool) → IsUnheard e
-          → ignored_in (running (if b then e ∷ h.acked side l else h.acked side l)) ≡ ignored_of h
-      added e true q = ignores_none e (h.acked side l) q
-      added e false q = refl
-
-      at : (e : LifeEvent) (here possible : Bool) → IsUnheard e
-          → ignored_in (running (if here then (if possible then e ∷ h.acked side l else h.acked side l)
-          else h.acked side l)) ≡ ignored_of h
-      at e true possible q = added e possible q
-      at e false possible q = refl
-
-      by : (e : AnyEvent) → IsQuiet e
-          → ignored_of (with_told (record { side = t.side; lcid = t.lcid; event = e }) h) ≡ ignored_of h
-      by (Acked e) q = at e (is_at t.side t.lcid side l) _ q
-      by (Unacked e) q = refl
-
-  all_quiet : (ts : List Told) (h : Histories) → AreQuiet ts → ignored_of (all_told histories ts h) ≡ ignored_of h
-  all_quiet [] h quiet = refl
-  all_quiet (t ∷ ts) h quiet = all_quiet ts (with_told t h) quiet.1 ∙ one_quiet t h quiet.0
+  ignored_of h = ignored_by (h.acked side l)
 
   loads_quiet : (kinds : List (Option Layout)) (from : Side) (named : List Named) (sdus : List Sdu)
       (b : Loaded Histories) → ignored_of (loads histories kinds from named sdus b).flows ≡ ignored_of b.flows
@@ -104,10 +60,12 @@ module _ (side : Side) (l : ℕ) where
       (loads_parcel histories from s.how (parcel_of histories kinds b.flows from s d.octets) b)
       ∙ one (parcel_of histories kinds b.flows from s d.octets)
     where
-      written : (how : How) (p : Parcel) → AreQuiet (written_as from how p)
-      written hows.New (Octets lcid n start end) = (tt, tt)
-      written hows.Re (Octets lcid n start end) = (tt, tt)
-      written hows.New (Pieces lcid n size pieces) = (tt, tt)
+      written : (how : How) (p : Parcel) → AreKeeping ignored_by (written_as from how p)
+      written hows.New (Octets lcid n start end) =
+          told_keeps ignored_by from lcid (InLife (NumberWritten end)) (λ es. refl)
+      written hows.Re (Octets lcid n start end) =
+          told_keeps ignored_by from lcid (InLife (OctetsResent n start end)) (λ es. refl)
+      written hows.New (Pieces lcid n size pieces) = (λ s k h. refl, tt)
       written hows.Re (Pieces lcid n size pieces) = tt
       written hows.New (Report lcid ack entries) = tt
       written hows.Re (Report lcid ack entries) = tt
@@ -116,48 +74,9 @@ module _ (side : Side) (l : ℕ) where
 
       one : (o : Option Parcel) → ignored_of (loads_parcel histories from s.how o b).flows ≡ ignored_of b.flows
       one None = refl
-      one (Some p) = all_quiet (written_as from s.how p) b.flows (written s.how p)
+      one (Some p) = all_keep ignored_by (written_as from s.how p) (written s.how p) side l b.flows
 
 -- ---- so a record tells of none, but one that a block is got
-
-taken_quiet : (x : Option Layout) (side : Side) (lcid : ℕ) (count : Option ℕ) (len : ℕ)
-    → AreQuiet (taken_as x side lcid count len)
-taken_quiet (Some (layouts.Am pdcp.Srb)) side lcid count len = (tt, tt)
-taken_quiet (Some (layouts.Am (pdcp.Um bits))) side lcid count len = (tt, tt)
-taken_quiet (Some (layouts.Am (pdcp.Am bits))) side lcid count len = (tt, tt)
-taken_quiet (Some (layouts.Um rlc (pdcp.Um bits))) side lcid count len = (tt, tt)
-taken_quiet (Some (layouts.Um rlc pdcp.Srb)) side lcid count len = tt
-taken_quiet (Some (layouts.Um rlc (pdcp.Am bits))) side lcid count len = tt
-taken_quiet (Some layouts.Tm) side lcid count len = tt
-taken_quiet None side lcid count len = tt
-
-report_quiet : (x : Option Layout) (side : Side) (lcid len : ℕ) → AreQuiet (report_as x side lcid len)
-report_quiet (Some (layouts.Am pdcp.Srb)) side lcid len = tt
-report_quiet (Some (layouts.Am (pdcp.Um bits))) side lcid len = tt
-report_quiet (Some (layouts.Am (pdcp.Am bits))) side lcid len = (tt, tt)
-report_quiet (Some (layouts.Um rlc kind)) side lcid len = tt
-report_quiet (Some layouts.Tm) side lcid len = tt
-report_quiet None side lcid len = tt
-
-reorder_quiet : (x : Option Layout) (side : Side) (lcid : ℕ) (e : FlowEvent) (u : UmEvent) → IsUnheard (InLife e)
-    → AreQuiet (reorder_as x side lcid e u)
-reorder_quiet (Some (layouts.Am kind)) side lcid e u h = (h, tt)
-reorder_quiet (Some (layouts.Um rlc kind)) side lcid e u h = (tt, tt)
-reorder_quiet (Some layouts.Tm) side lcid e u h = (h, tt)
-reorder_quiet None side lcid e u h = (h, tt)
-
-event_quiet : (kinds : List (Option Layout)) (more : Bool) (side : Side) (e : Event)
-    → AreQuiet (told_by kinds more side e)
-event_quiet kinds more side (events.Take lcid count len) =
-    taken_quiet (slice_index_or kinds lcid None) side lcid count len
-event_quiet kinds more side (events.Report lcid fms bitmap) =
-    report_quiet (slice_index_or kinds lcid None) side lcid (length bitmap)
-event_quiet kinds more side (events.Start lcid Reorder) =
-    reorder_quiet (slice_index_or kinds lcid None) (other side) lcid _ _ tt
-event_quiet kinds more side (events.Expired lcid Reorder) =
-    reorder_quiet (slice_index_or kinds lcid None) (other side) lcid _ _ tt
-event_quiet kinds more side (events.Expired lcid Poll) = (tt, tt)
-event_quiet kinds more side e = tt
 
 -- no block is got
 abbrev pub IsUngot : Record → Type 0
@@ -168,8 +87,8 @@ pub record_quiet : (kinds : List (Option Layout)) (more : Bool) (one : Record) (
     (j : Journal Histories) → IsUngot one
     → ignored_so_far side l (behind_record histories kinds more one j) ≡ ignored_so_far side l j
 record_quiet kinds more (records.Of own e) side l j h =
-    ap (λ (f : Histories). ignored_in (running (f.acked side l))) (flows_behind kinds more own e j)
-    ∙ all_quiet side l (told_by kinds more own e) j.flows (event_quiet kinds more own e)
+    own_record_keeps ignored_by (λ count size es. refl) (λ again es. refl) (λ es. refl) (λ es. refl) kinds more own e
+    side l j
 record_quiet kinds more (records.Block directions.Down process true version octets) side l j h =
     loads_quiet side l kinds Nb j.nb.named _ _
 record_quiet kinds more (records.Block directions.Up process true version octets) side l j h =
