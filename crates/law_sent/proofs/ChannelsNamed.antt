@@ -1,6 +1,6 @@
 -- What `send` records name behind the last new block is gathered beside flows as it is where PDUs are checked.
 use Rattle.std.proofs.Common.{◌≡◌, ℕ, Bool, true, false, if◌then◌else◌, List, [], ◌∷◌, ◌++◌, Option, Some, None}
-use Rattle.std.proofs.Common.{refl, ap, sym, ◌∙◌}
+use Rattle.std.proofs.Common.{map, refl, ap, sym, ◌∙◌}
 use Rattle.std.proofs.lemmas.List.{map-append}
 use Rattle.l2_types.specs.declared.side.Side.{Side}
 use Rattle.l2_types.specs.declared.side.Side.TheVariants.{Nb, Ue}
@@ -30,7 +30,14 @@ use Rattle.journal_sent.specs.Sending.{passed_to, named_of, with_named, event_to
 use Rattle.journal_sent.specs.Sending.{pdus_told, tells, submits_own, released, settled}
 use Rattle.journal_sent.specs.Sending.{after_record}
 use Rattle.journal_sent.specs.RightSent.{Flow, AllSent, Given}
-use Rattle.law_sent.specs.Channels.{as_named, AreNamedAlike}
+
+-- ---- what `send` records name
+
+abbrev pub as_named : List NamedPdu → List Named
+as_named named = map (λ (n : NamedPdu). record { lcid = n.lcid; how = n.how }) named
+
+abbrev pub AreNamedAlike : Journal Histories → AllSent → Type 0
+AreNamedAlike j s = (side : Side) → (sending_of side j).named ≡ as_named (named_of side s)
 
 -- what a record leaves named on a side
 abbrev named_by : Side → Record → List Named → List Named

@@ -2,7 +2,7 @@
 -- goes on by its own records alone: so whether these are right is told channel by channel
 -- (docs/formats/JOURNAL.md; TS 36.321 6.1.2, TS 36.322 5.1.3.1.1, TS 36.323 5.1.1, 6.2.6).
 use Rattle.std.specs.Prelude.{◌≡◌, ℕ, ◌≤◌, ◌==◌, Bool, true, false, if◌then◌else◌, List, []}
-use Rattle.std.specs.Prelude.{◌∷◌, ◌++◌, length, map, Option, Some}
+use Rattle.std.specs.Prelude.{◌∷◌, ◌++◌, length, Option, Some}
 use Rattle.l2_types.specs.declared.event.How.{How}
 use Rattle.l2_types.specs.declared.side.Side.{Side}
 use Rattle.mac_pdu.specs.declared.builder.Sdu.{Sdu}
@@ -16,9 +16,7 @@ use Rattle.air_record.specs.declared.line.Line.{Line}
 use Rattle.air_record.specs.declared.line.Line.TheVariants as lines
 use Rattle.air_record.specs.declared.record.Record.{Record}
 use Rattle.air_record.specs.declared.record.Record.TheVariants as records
-use Rattle.journal_flows.specs.declared.sending.Named.{Named}
-use Rattle.journal_flows.specs.FlowsTold.{Histories}
-use Rattle.journal_flows.specs.Gathering.{Journal, sending_of, sdus_read}
+use Rattle.journal_flows.specs.Gathering.{sdus_read}
 use Rattle.journal_flows.specs.Accounts.{account_at}
 use Rattle.journal_given.specs.Supplies as given
 use Rattle.journal_sent.specs.declared.checker.NamedPdu.{NamedPdu}
@@ -117,14 +115,6 @@ IsRightByChannel right =
 -- in what it carries, and in how it is framed; so too by any other test
 abbrev pub BlocksAreRightByChannel : Type 0
 BlocksAreRightByChannel = IsRightByChannel PduIsSent × IsRightByChannel PduIsShaped
-
--- ---- what `send` records name is what is gathered beside flows
-
-abbrev pub as_named : List NamedPdu → List Named
-as_named named = map (λ (n : NamedPdu). record { lcid = n.lcid; how = n.how }) named
-
-abbrev pub AreNamedAlike : Journal Histories → AllSent → Type 0
-AreNamedAlike j s = (side : Side) → (sending_of side j).named ≡ as_named (named_of side s)
 
 -- ---- lines
 

@@ -63,7 +63,8 @@ use Rattle.law_run.proofs.EmptyLists.{parts_empty}
 use Rattle.law_run.proofs.Flowing.{looped_then}
 use Rattle.law_run.proofs.OwnPdus.Bearers.{IsQuiet}
 use Rattle.law_run.proofs.OwnPdus.Ends.{well_at}
-use Rattle.law_sent.specs.Channels.{AreRight, SentPdu, StandsOn, as_named, behind_all, flow_on, sent_on}
+use Rattle.law_sent.specs.Channels.{AreRight, SentPdu, StandsOn, behind_all, flow_on, sent_on}
+use Rattle.law_sent.proofs.ChannelsNamed.{as_named}
 use Rattle.law_sound.specs.BesideLaws.{station_of}
 use Rattle.law_run.specs.TwoEnds.Along.{at_side}
 use Rattle.law_sound.specs.LivedHistories.{Moment}

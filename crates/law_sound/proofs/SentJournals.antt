@@ -52,8 +52,7 @@ use Rattle.law_given.proofs.BearerRecordsFlows.{flows_say_on_one_bearer}
 use Rattle.law_given.proofs.GivenRecords.{BringsNoBlock, journal_at}
 use Rattle.law_given.proofs.OneBearerGroups.{one_channel_by_groups}
 use Rattle.law_run.specs.TwoEnds.Logs.{Flight, LogEntry, all_tell, logged}
-use Rattle.law_sent.specs.Channels.{AreNamedAlike, as_named}
-use Rattle.law_sent.proofs.ChannelsNamed.{named_alike_records}
+use Rattle.law_sent.proofs.ChannelsNamed.{AreNamedAlike, as_named, named_alike_records}
 use Rattle.law_sound.specs.BesideLaws.{ReadRecord, behind_all}
 use Rattle.law_sound.specs.LoadLaws.{name_of}
 use Rattle.law_sound.specs.LoggedRecords.{records_of}

@@ -35,7 +35,7 @@ use Rattle.law_node.specs.Calls.{Visits}
 use Rattle.law_node.specs.Telling.{told_of}
 use Rattle.law_run.specs.TwoEnds.Logs.{Flight, last_in, logged, log_at}
 use Rattle.law_run.proofs.BearerWalk.{adds_one}
-use Rattle.law_sent.specs.Channels.{AreNamedAlike}
+use Rattle.law_sent.proofs.ChannelsNamed.{AreNamedAlike}
 use Rattle.law_sound.specs.BesideLaws.{ReadRecord, behind_all, station_of}
 use Rattle.law_sound.specs.ComingLaws.{TellsFlows}
 use Rattle.law_sound.specs.LivedHistories.{Moment}

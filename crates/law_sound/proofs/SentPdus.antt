@@ -16,7 +16,8 @@ use Rattle.promises.specs.RightForm.{sdus_in}
 use Rattle.journal_flows.specs.declared.sending.Named.{Named}
 use Rattle.journal_flows.specs.Gathering.{sdus_read}
 use Rattle.journal_sent.specs.declared.checker.NamedPdu.{NamedPdu}
-use Rattle.law_sent.specs.Channels.{SentPdu, pdus_on, as_named}
+use Rattle.law_sent.specs.Channels.{SentPdu, pdus_on}
+use Rattle.law_sent.proofs.ChannelsNamed.{as_named}
 use Rattle.law_sound.specs.LoadLaws.{name_of}
 use Rattle.law_sound.proofs.Blocks.{pdus_are}
 use Rattle.law_sound.proofs.Loading.{pdus_of}

@@ -40,7 +40,8 @@ use Rattle.law_run.specs.Order.{IsRight, KeepsOrder}
 use Rattle.law_run.specs.TwoEnds.Logs.{LogEntry, Tells, Flight, flight_behind, logged_at, logged}
 use Rattle.law_run.proofs.BearerWalk.{adds_one}
 use Rattle.law_run.proofs.EmptyLists.{parts_empty}
-use Rattle.law_sent.specs.Channels.{as_named, begins_on}
+use Rattle.law_sent.specs.Channels.{begins_on}
+use Rattle.law_sent.proofs.ChannelsNamed.{as_named}
 use Rattle.law_sent.proofs.Channels.{lines_go_alone}
 use Rattle.law_sound.specs.AlikeLaws.{AreAlikeJournals}
 use Rattle.law_sound.specs.BesideLaws.{ReadRecord, behind_all}
