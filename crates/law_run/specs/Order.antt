@@ -1,5 +1,5 @@
 -- The lines of a journal, run in their turn (docs/laws/JOURNAL.md).
-use Rattle.std.specs.Prelude.{◌≡◌, List, [], ◌∷◌, None}
+use Rattle.std.specs.Prelude.{◌≡◌, ℕ, List, [], ◌∷◌, None}
 use Rattle.air_record.specs.declared.line.Line.{Line}
 use Rattle.air_record.specs.declared.line.Line.TheVariants as lines
 use Rattle.air_text.specs.Groups.{Group}
@@ -7,7 +7,8 @@ use Rattle.air_text.specs.Ranges.{IsInRange}
 use Rattle.air_run.specs.Rules.{refusal}
 use Rattle.air_run.specs.Run.{RunState, fresh, behind_line, done}
 use Rattle.bearer_types.specs.declared.BearerConfig.{BearerConfig}
-use Rattle.l2_types.specs.declared.channel.Kind.TheVariants.{Tm}
+use Rattle.l2_types.specs.declared.channel.Kind.{Kind}
+use Rattle.l2_types.specs.declared.channel.Kind.TheVariants.{Tm, Am}
 use Rattle.promises.specs.Air.{ttis, IsOfItsTime}
 use Rattle.promises.specs.Blocks.{kinds, AreTold}
 use Rattle.promises.specs.Parts.{part_of_line}
@@ -27,12 +28,22 @@ abbrev pub HasTransparentFirst : Line → Type 0
 HasTransparentFirst (lines.Bearer config options) = IsTransparentFirst config
 HasTransparentFirst line = Unit {0}
 
+-- COUNTs begin at 0, but for acknowledged data, of which a line may give the first (TS 36.323 5.2)
+abbrev pub IsFirstCount : Kind → ℕ → Type 0
+IsFirstCount Am first = Unit {0}
+IsFirstCount kind first = first ≡ 0
+
+abbrev pub HasFirstCount : Line → Type 0
+HasFirstCount (lines.Bearer config options) = IsFirstCount config.kind config.first
+HasFirstCount line = Unit {0}
+
 -- a line that is read and breaks no rule, with exactly the records that it leaves where it stands;
 -- they are those of its TTIs, and of its new blocks
 pub record IsRight (past : List Group) (g : Group) : Type 0 where
   pub in_range : IsInRange g.line
   pub count : HasCount g.line
   pub transparent : HasTransparentFirst g.line
+  pub first : HasFirstCount g.line
   pub allowed : refusal g.line (state_behind past).rules (state_behind past).link ≡ None
   pub events_are : g.events ≡ (behind_line g.line (state_behind past)).out
   pub of_its_time : IsOfItsTime (ttis past) (part_of_line g.line) g.events

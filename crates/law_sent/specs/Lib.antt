@@ -1,2 +1,4 @@
 pub mod Senders
 pub mod Channels
+pub mod Flows
+pub mod UmSenders

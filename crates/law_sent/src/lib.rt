@@ -5,4 +5,4 @@
 
 mod laws;
 
-pub use laws::{channels_go_alone, senders_write_rightly};
+pub use laws::{channels_go_alone, flows_go_on, senders_write_rightly, um_senders_write_rightly};
