@@ -109,6 +109,8 @@ pub mod SentNames
 pub mod SentCalls
 pub mod SentRecords
 pub mod SentBetween
+pub mod QueueBeside
+pub mod QueueAt
 pub mod SentPdus
 pub mod SentJournals
 pub mod SentSizes
