@@ -111,6 +111,9 @@ pub mod SentRecords
 pub mod SentBetween
 pub mod QueueBeside
 pub mod QueueAt
+pub mod QueuePdcp
+pub mod QueueBearers
+pub mod QueueSteps
 pub mod SentPdus
 pub mod SentJournals
 pub mod SentSizes

@@ -4,6 +4,7 @@ use Rattle.std.proofs.Common.{◌≡◌, ◌<◌, ◌≤◌, ℕ, Bool, List, []
 use Rattle.std.specs.List.{AllByRecursion, flat_map}
 use Rattle.bearer.specs.Acknowledged.State.{State}
 use Rattle.bearer.specs.Unacknowledged.State.{State as UmState}
+use Rattle.bearer.specs.Submitting.{refusal}
 use Rattle.bearer.specs.Taking.{pdus, told}
 use Rattle.bearer.specs.declared.flow.Flow.{Flow as BearerFlow}
 use Rattle.bearer.specs.declared.flow.Flow.TheVariants.{Tm, Um, Am}
@@ -20,14 +21,15 @@ use Rattle.rlc_um.specs.Transparent.{Transparent}
 use Rattle.journal_account.specs.FlowAccount.{account_of}
 use Rattle.journal_account.specs.FlowEvents.{FlowEvent}
 use Rattle.journal_account.specs.FlowSending.{acked_kept}
+use Rattle.journal_lives.specs.FlowLives.{FlowLives}
 use Rattle.journal_sent.specs.RightSent.{Flow, IsSdu, FirstIsTaken}
 use Rattle.journal_sent.specs.SentFlows.{flow_submitted, flow_taken, flow_reported, flow_discarded, first_of}
 use Rattle.journal_sent.specs.SentPdus.{histories}
 use Rattle.law_account.specs.History.{Follows}
-use Rattle.law_bearer.specs.AnyBearer.Calls.{Call as BearerCall, Take, after, after_all}
+use Rattle.law_bearer.specs.AnyBearer.Calls.{Call as BearerCall, Submit, Take, after, after_all}
 use Rattle.law_bearer.specs.AnyBearer.Queue.{submits}
 use Rattle.law_bearer.proofs.AnyBearer.Between.{IsBetween}
-use Rattle.law_deliver.specs.AmFlow.Ups.{tells_over}
+use Rattle.law_deliver.specs.AmFlow.Ups.{tells_in, tells_over}
 use Rattle.law_node.proofs.CountsFit.{CountsFit}
 use Rattle.law_node.proofs.Plain.{IsPlain}
 use Rattle.law_node.proofs.Ready.{WritesWell}
@@ -104,7 +106,17 @@ abbrev pub queue_submits : List (List ℕ) → Flow → Flow
 queue_submits [] f = f
 queue_submits (sdu ∷ sdus) f = queue_submits sdus (flow_submitted sdu f)
 
--- ---- calls in which nothing is written: SDUs are submitted, or events told
+-- ---- calls in which nothing is written: an SDU is submitted, or events told
+
+-- the call writes nothing, and an SDU that is submitted isn't refused
+abbrev pub IsTakenIn : BearerFlow → BearerCall → Type 0
+IsTakenIn x (Submit sdu) = refusal x sdu ≡ None
+IsTakenIn x (Take share held) = ⊥
+IsTakenIn x c = Unit {0}
+
+pub record KeepsOne (l : ℕ) (x : BearerFlow) (c : BearerCall) (f : Flow) : Type 0 where
+  pub right : AreRightHere (tells_in l x c) (queue_submits (submits c) f)
+  pub behind : IsQueuedBy (after x c) (queue_over (tells_in l x c) (queue_submits (submits c) f))
 
 pub record KeepsSo (l : ℕ) (x : BearerFlow) (cs : List BearerCall) (f : Flow) : Type 0 where
   pub right : AreRightHere (tells_over l x cs) (queue_submits (flat_map submits cs) f)
@@ -143,3 +155,9 @@ pub record WritesSo (l : ℕ) (x : BearerFlow) (share : ℕ) (held : Option ℕ)
   pub right : AreRightHere (told l x share held) f
   pub pdus_right : AreRight IsRightPdu acked ps (queue_over (told l x share held) f)
   pub behind : IsQueuedBy (after x (Take share held)) (behind_all acked ps (queue_over (told l x share held) f))
+
+-- ---- a group ends: the fields of numbers that are acknowledged are forgotten
+
+abbrev pub IsBaseLow : BearerFlow → Option FlowLives → Type 0
+IsBaseLow (Am b) (Some lives) = lives.account.sending.base ≤ b.tx.window.base
+IsBaseLow x account = Unit {0}
