@@ -113,7 +113,6 @@ pub mod QueueBeside
 pub mod QueueAt
 pub mod QueuePdcp
 pub mod QueueBearers
-pub mod QueueSteps
 pub mod SentPdus
 pub mod SentJournals
 pub mod SentSizes
@@ -121,6 +120,8 @@ pub mod SentSteps
 pub mod SentQuiet
 pub mod SentBuilds
 pub mod SentLife
+pub mod QueueLaws
+pub mod QueueRecords
 pub mod SentKeys
 pub mod SentEnds
 pub mod SentStays
@@ -132,6 +133,7 @@ pub mod GivenHow
 pub mod GivenLater
 pub mod GivenLife
 pub mod WaitingSteps
+pub mod QueueSteps
 pub mod WaitingGroups
 pub mod WaitingJournals
 pub mod CarriedShapes
