@@ -133,6 +133,8 @@ pub mod GivenHow
 pub mod GivenLater
 pub mod GivenLife
 pub mod WaitingSteps
+pub mod QueueQuiet
+pub mod QueueBuilds
 pub mod QueueSteps
 pub mod WaitingGroups
 pub mod WaitingJournals

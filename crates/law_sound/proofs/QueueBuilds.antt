@@ -1,0 +1,2 @@
+-- A step of a life in which a new block is built: what is kept of the flows of a channel, whose bearers aren't of
+-- acknowledged data, goes on by it beside both ends, and its records are right.
