@@ -118,6 +118,7 @@ pub mod SentJournals
 pub mod SentSizes
 pub mod SentSteps
 pub mod SentQuiet
+pub mod BuiltRecords
 pub mod SentBuilds
 pub mod SentLife
 pub mod QueueLaws

@@ -93,20 +93,20 @@ use Rattle.law_sound.proofs.StepRecords.{building_log}
 
 -- ---- what is read in a new block is what its end tells of
 
-reads_so : (side : Side) (e : End) → HasCome side e → (t : Turn) → IsGivenCall (Visits t)
+pub reads_so : (side : Side) (e : End) → HasCome side e → (t : Turn) → IsGivenCall (Visits t)
     → visit t.tti t.order e ≡ New
     → ReadsAs (sent_by side) (new_block (visited t.tti t.order e) t.grant) (sent_pdus (told_of e (Visits t)))
 reads_so side e come t given new =
     let f = new_block_formed side e t come given new in
     record { modes = modes_of (visited t.tti t.order e); items = f.items; read = f.read; named = f.named }
 
-visited_flow : (l tti : ℕ) (order : Order) (e : End) → flow l (visited tti order e) ≡ flow l e
+pub visited_flow : (l tti : ℕ) (order : Order) (e : End) → flow l (visited tti order e) ≡ flow l e
 unfolding visited
 visited_flow l tti order e = refl
 
 -- ---- the block of a side
 
-from_side : (side : Side) → sender_of (sent_by side) ≡ side
+pub from_side : (side : Side) → sender_of (sent_by side) ≡ side
 from_side Nb = refl
 from_side Ue = refl
 
@@ -147,7 +147,7 @@ is_sent l now past told Ue process version octets h = h
 same_flow : (side : Side) (l : ℕ) (s : AllSent) (f x : Flow) → StandsOn side l s f → flow_on side l s ≡ Some x → f ≡ x
 same_flow side l s f x stands is = let same : Some f ≡ Some x = sym stands.is ∙ is in cc
 
-same_station : (side : Side) (a : Air) → (station_of side a).end ≡ end_at side a
+pub same_station : (side : Side) (a : Air) → (station_of side a).end ≡ end_at side a
 same_station Nb a = refl
 same_station Ue a = refl
 
