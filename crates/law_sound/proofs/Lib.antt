@@ -135,6 +135,7 @@ pub mod GivenLater
 pub mod GivenLife
 pub mod WaitingSteps
 pub mod QueueQuiet
+pub mod QueuePassed
 pub mod QueueBuilds
 pub mod QueueSteps
 pub mod WaitingGroups

@@ -1,13 +1,15 @@
 -- A step of a life in which a new block is built: what is kept of the flows of a channel, whose bearers aren't of
 -- acknowledged data, goes on by it beside both ends, and its records are right.
-use Rattle.std.proofs.Common.{◌≡◌, ◌≤◌, ℕ, ◌%◌, Bool, true, false, if◌then◌else◌, Option, Some, None, List, [], ◌∷◌}
-use Rattle.std.proofs.Common.{◌++◌, map, append-nil, refl, ap, sym, subst, ◌∙◌, inl}
+use Rattle.std.proofs.Common.{◌≡◌, ◌≤◌, ℕ, ◌-◌, ◌%◌, Bool, true, false, if◌then◌else◌, Option, Some, None, List, []}
+use Rattle.std.proofs.Common.{◌∷◌, ◌++◌, map, append-nil, refl, ap, sym, subst, ◌∙◌}
 use Rattle.std.specs.List.{AllByRecursion, flat_map}
 use Rattle.air_record.specs.declared.record.Record.{Record}
 use Rattle.air_record.specs.Submissions.{submitted_by}
 use Rattle.air_text.specs.Groups.{Group}
 use Rattle.bearer.specs.declared.flow.Flow.{Flow as BearerFlow}
 use Rattle.bearer.specs.Taking.{pdus, told as tells_of_taking}
+use Rattle.bearer.specs.Transparent.{data_told}
+use Rattle.bearer_pdcp.specs.Telling.{pdus_of}
 use Rattle.bearer_types.specs.Sides.{other, sender_of, sent_by}
 use Rattle.bearer_types.specs.declared.event.Event.{Event}
 use Rattle.harq.specs.declared.sender.Order.{Order}
@@ -28,6 +30,7 @@ use Rattle.promises.specs.Records.{events_of}
 use Rattle.journal_sent.specs.RightSent.{AllSent, Flow}
 use Rattle.journal_sent.specs.Sending.{acked_at, named_of}
 use Rattle.journal_sent.specs.SentFlows.{first_of, is_data}
+use Rattle.rlc_um.specs.Transparent.{taken as tm_taken}
 use Rattle.law_bearer.specs.AnyBearer.Calls.{Call as BearerCall, Take as Takes, after_all}
 use Rattle.law_bearer.specs.AnyBearer.Queue.{submits}
 use Rattle.law_deliver.specs.AmChannel.Lives.{InLife, end_at}
@@ -44,7 +47,7 @@ use Rattle.law_node.specs.Telling.{told_of}
 use Rattle.law_node.proofs.Keeping.{at_is, reached_are, share_most}
 use Rattle.law_node.proofs.Ready.{WritesWell, ready_kept}
 use Rattle.law_node.proofs.Sound.{visited_sound}
-use Rattle.law_run.specs.TwoEnds.Along.{at_side}
+use Rattle.law_run.specs.TwoEnds.Along.{StandTogether, TellsTogether, at_side}
 use Rattle.law_run.specs.TwoEnds.Logs.{Builds, Flight, all_tell, logged}
 use Rattle.law_run.proofs.EmptyLists.{parts_empty}
 use Rattle.law_run.proofs.Flowing.{looped_then}
@@ -60,6 +63,10 @@ use Rattle.law_sound.proofs.GivenStepFacts.{stands_at, step_bearer}
 use Rattle.law_sound.proofs.QueueAt.{AreRightRecords, IsQueuedAt, IsQueuedOn, IsRightRecord, KnowsAcked, TellsStep}
 use Rattle.law_sound.proofs.QueueBearers.{queue_writes}
 use Rattle.law_sound.proofs.QueueBeside.{AreRightHere, ArePdusOf, CanWrite, IsQueuedBy, queue_over}
+use Rattle.law_sound.proofs.QueueLaws.{passed_on}
+use Rattle.law_sound.proofs.QueuePassed.{IsOfEnd, TellsAt, first_together, is_transparent, new_together}
+use Rattle.law_sound.proofs.QueuePassed.{none_passed_on, passed_first, passed_in, tells_ends, transparent_tells}
+use Rattle.law_sound.proofs.QueuePassed.{transparent_writes}
 use Rattle.law_sound.proofs.QueueQuiet.{QueuesGo, loops_so, tells_so}
 use Rattle.law_sound.proofs.QueueRecords.{AreRightOver, all_right, block_right, far_builds, flow_builds, flow_goes}
 use Rattle.law_sound.proofs.QueueRecords.{flow_stays, go_by_events, go_by_loops, not_data, right_then}
@@ -203,26 +210,67 @@ module _ (l : ℕ) (low : l ≤ 10) (newer : List Group) (now : Group) (past : L
   told_behind : (z : Side) → told_on l (events_of z behind) ≡ []
   told_behind z = ap (told_on l) (behind_told side process octets said sent xs log_is z)
 
+  -- ---- what it tells stands together
+
+  visit_stands : (z : Side) → TellsTogether (InLife (at_side z (Calls (Visits turn)))) a xs
+      → StandTogether z (told_of (station_of z a).end (Visits turn)) xs
+  visit_stands Nb h = h
+  visit_stands Ue h = h
+
+  first_stands : StandTogether side said first
+  first_stands =
+      let p = parts side process octets said sent xs log_is in
+      let all = visit_stands side (subst (λ (y : Step). TellsTogether (InLife y) a xs) step tells.tells) in
+      let said_is : events_of side xs ≡ said =
+      sym (first_all side process octets said sent xs log_is) ∙ first_said side process octets said sent xs log_is in
+      first_together side said all.before all.behind first (block ∷ behind)
+      (subst (AllByRecursion IsOfEnd) said_is (tells_ends side xs))
+      (behind_told side process octets said sent xs log_is side) (sym p.told_is ∙ all.are)
+
   -- ---- what the block carries
+
+  flow_u : flow l u ≡ x
+  flow_u = visited_flow l turn.tti turn.order e ∙ ap (flow l) (same_station side a)
 
   carries : carried l (sent_by side) octets ≡ (if here then pdus x share held else [])
   carries =
       let building : IsBuilding (station_of side a) turn =
       subst (λ (v : Visit). IsVisiting v (station_of side a) turn) build done.2 in
       carries_so side e stands.come turn.tti turn.order turn.grant l building.some done.0.0 stands.there
-      ∙ ap (λ (b : BearerFlow). if here then pdus b share held else [])
-      (visited_flow l turn.tti turn.order e ∙ ap (flow l) (same_station side a))
+      ∙ ap (λ (b : BearerFlow). if here then pdus b share held else []) flow_u
+
+  named_so : as_named (named_of (sender_of (sent_by side)) at_first) ≡ map name_of (sent_pdus said)
+  named_so =
+      ap (λ (z : Side). as_named (named_of z at_first)) (from_side side)
+      ∙ named_told l low newer now past none told first side sent said
+      (parts side process octets said sent xs log_is).first_logs (h.silent side) h.alike
 
   on_it : AreOnChannel l (sent_by side) octets (sent_pdus said) ps
   on_it =
       on_channel l (sent_by side) octets (sent_pdus said) (named_of (sender_of (sent_by side)) at_first)
-      (reads_so side e stands.come turn done.0 build)
-      (ap (λ (y : Side). as_named (named_of y at_first)) (from_side side) ∙ told_names)
-    where
-      told_names : as_named (named_of side at_first) ≡ map name_of (sent_pdus said)
-      told_names =
-          named_told l low newer now past none told first side sent said
-          (parts side process octets said sent xs log_is).first_logs (h.silent side) h.alike
+      (reads_so side e stands.come turn done.0 build) named_so
+
+  -- the PDU of a transparent bearer is the SDU that is taken
+  passed : here ≡ true → told_on l (events_of side first) ≡ tells_of_taking l x share held
+      → carried l (sent_by side) octets ≡ pdus x share held → f.cover ≡ None
+      → AllByRecursion (λ (p : SentPdu). p.passed ≡ first_of f.waiting) ps
+  passed known told_is carried_is plain =
+      let t = is_transparent x f (h.queued side).queued plain in
+      let r = tm_taken t.0 (share - 3) in
+      let tells_is : tells_of_taking l x share held ≡ data_told l r =
+      ap (λ (b : BearerFlow). tells_of_taking l b share held) t.1 ∙ transparent_tells l t.0 share held in
+      let writes_is : pdus x share held ≡ pdus_of r =
+      ap (λ (b : BearerFlow). pdus b share held) t.1 ∙ transparent_writes t.0 share held in
+      passed_first side l now past told first said f ps none first_stands
+      (first_unsent side process octets said sent xs log_is) (loops_parts side).0 (not_data x f (h.queued side).queued)
+      (h.queued side).stands plain
+      (none_passed_on l (named_of side (sending_first now past told)) (sym (h.alike side) ∙ h.silent side))
+      (passed_in l (sent_by side) octets (sent_pdus said) (named_of (sender_of (sent_by side)) at_first)
+      (reads_so side e stands.come turn done.0 build) named_so
+      ∙ ap (λ (z : Side). passed_on l (named_of z at_first)) (from_side side)) r
+      (subst (TellsAt said) (ap (λ (b : BearerFlow). tells_of_taking l b share held) flow_u ∙ tells_is)
+      (new_together side l e turn stands.come build stands.there known)) (told_is ∙ tells_is)
+      (λ empty. none_on_channel l (sent_by side) octets (sent_pdus said) ps on_it (carried_is ∙ writes_is ∙ empty))
 
   -- ---- the side's flow goes over the records before the block, and over the block
 
@@ -260,10 +308,10 @@ module _ (l : ℕ) (low : l ≤ 10) (newer : List Group) (now : Group) (past : L
       }
 
   -- it writes the PDUs that the block carries
-  taken_built : calls side ≡ Takes share held ∷ []
+  taken_built : here ≡ true → calls side ≡ Takes share held ∷ []
       → told_on l (events_of side first) ≡ tells_of_taking l x share held
       → carried l (sent_by side) octets ≡ pdus x share held → IsBuilt
-  taken_built one told_is carried_is =
+  taken_built known one told_is carried_is =
       let es = tells_of_taking l x share held in
       let well = writes_well side l (end_at side a) (stands_at side l a h.new h.there) in
       let can : CanWrite l x share = record {
@@ -278,7 +326,7 @@ module _ (l : ℕ) (low : l ≤ 10) (newer : List Group) (now : Group) (past : L
             ∙ ap (λ (zs : List Event). map (λ n. n.how) (sent_pdus (told_on l zs)))
             (sym (first_said side process octets said sent xs log_is))
             ∙ ap (λ (zs : List Event). map (λ n. n.how) (sent_pdus zs)) told_is;
-        passed_are = λ plain. passed plain;
+        passed_are = passed known told_is carried_is;
       } in
       let writes = queue_writes l x share held acked ps f can
       (knows side first block (first_brings side process octets said sent xs log_is)
@@ -292,19 +340,16 @@ module _ (l : ℕ) (low : l ≤ 10) (newer : List Group) (now : Group) (past : L
         behind_is = subst (λ (cs : List BearerCall). IsQueuedBy (after_all x cs)
             (behind_all acked ps (queue_over es f))) (sym one) writes.behind;
       }
-    where
-      passed : f.cover ≡ None → AllByRecursion (λ (p : SentPdu). p.passed ≡ first_of f.waiting) ps
-      passed plain = ?
 
   built : IsBuilt
-  built = by here own_calls first_told carries
+  built = by here refl own_calls first_told carries
     where
-      by : (b : Bool) → calls side ≡ only b (Takes share held)
+      by : (b : Bool) → here ≡ b → calls side ≡ only b (Takes share held)
           → told_on l (events_of side first) ≡ tells_over l x (only b (Takes share held))
           → carried l (sent_by side) octets ≡ (if b then pdus x share held else []) → IsBuilt
-      by true one told_is carried_is =
-          taken_built one (told_is ∙ append-nil (tells_of_taking l x share held)) carried_is
-      by false quiet silent empty = none_built quiet silent empty
+      by true known one told_is carried_is =
+          taken_built known one (told_is ∙ append-nil (tells_of_taking l x share held)) carried_is
+      by false known quiet silent empty = none_built quiet silent empty
 
   -- ---- both sides' flows behind the records before the block, behind it, and behind all
 
