@@ -17,12 +17,13 @@ use Rattle.law_given.proofs.GivenRecords.{BringsNoBlock}
 use Rattle.law_node.specs.Calls.{Turn, Visits}
 use Rattle.law_node.specs.Telling.{told_of}
 use Rattle.law_run.specs.TwoEnds.Along.{at_side}
-use Rattle.law_run.specs.TwoEnds.Logs.{Builds, Flight, LogEntry, all_tell, flight_in, log_at, logged}
+use Rattle.law_run.specs.TwoEnds.Logs.{Builds, Flight, all_tell, flight_in, log_at, logged}
 use Rattle.law_sound.specs.BesideLaws.{station_of}
 use Rattle.law_sound.specs.NamedSteps.{SendsNoNewBlock}
-use Rattle.law_sound.proofs.LogEntries.{BlockIn, block_in}
-use Rattle.law_sound.proofs.LoggedEvents.{events_in, events_then, far_told, none_comes_in, none_sent, none_sent_anew}
-use Rattle.law_sound.proofs.LoggedEvents.{own_told, records_events, tells_hear_none, tells_unbuilt}
+use Rattle.law_sound.proofs.LogEntries.{block_in}
+use Rattle.law_sound.proofs.LoggedEvents.{HearsNone, IsUnbuilt, events_in, events_then, far_told, none_comes_in}
+use Rattle.law_sound.proofs.LoggedEvents.{none_sent, none_sent_anew, own_told, records_events, tells_hear_none}
+use Rattle.law_sound.proofs.LoggedEvents.{tells_unbuilt}
 use Rattle.law_sound.proofs.StepLogs.{log_at_side}
 use Rattle.law_sound.proofs.StepRecords.{building_log}
 
@@ -41,54 +42,57 @@ step_log side a s turn sent xs logs step build =
     logs ∙ ap (λ (y : Step). log_at a (InLife y)) step ∙ log_at_side side a (Calls (Visits turn))
     ∙ building_log side 0 (station_of side a).end turn build
 
-module _ (side : Side) (process : ℕ) (octets : List ℕ) (said : List Event) (sent : Flight) (xs : List Record)
-    (log_is : logged sent xs ≡ all_tell side said ++ Builds side process octets ∷ []) where
-  pub parts : BlockIn side process octets said sent xs
-  parts = block_in side process octets said sent xs log_is
-
-  abbrev pub first : List Record
-  first = parts.first
-
-  abbrev pub block : Record
-  block = block_of side process parts.version octets
-
-  abbrev pub behind : List Record
-  behind = parts.behind
-
-  -- ---- what they tell
-
+-- all that is known of them
+pub record BuiltAmong (side : Side) (process : ℕ) (octets : List ℕ) (said : List Event) (sent : Flight)
+    (xs : List Record) : Type 0 where
+  pub first : List Record
+  pub version : ℕ
+  pub behind : List Record
+  pub told_is : xs ≡ first ++ block_of side process version octets ∷ behind
+  pub first_logs : logged sent first ≡ all_tell side said
+  -- what they tell of each side
   pub first_said : events_of side first ≡ said
-  first_said = records_events side sent first ∙ ap (events_in side) parts.first_logs ∙ own_told side said
-
-  pub first_far : events_of (other side) first ≡ []
-  first_far = records_events (other side) sent first ∙ ap (events_in (other side)) parts.first_logs ∙ far_told side said
-
   pub first_all : events_of side first ≡ events_of side xs
-  first_all = first_said ∙ sym said_is
-    where
-      said_is : events_of side xs ≡ said
-      said_is =
-          records_events side sent xs ∙ ap (events_in side) log_is
-          ∙ events_then side (all_tell side said) (Builds side process octets ∷ [])
-          ∙ append-nil (events_in side (all_tell side said)) ∙ own_told side said
-
+  pub first_far : events_of (other side) first ≡ []
   pub behind_told : (z : Side) → events_of z behind ≡ []
-  behind_told z =
-      records_events z (flight_in (first ++ block ∷ []) sent) behind ∙ ap (events_in z) parts.behind_logs
-
-  -- ---- they send no other new block, and none comes
-
+  -- they send no other new block, and none comes
   pub first_unsent : AllByRecursion SendsNoNewBlock first
-  first_unsent = none_sent_anew sent first (subst (AllByRecursion _) (sym parts.first_logs) (tells_unbuilt side said))
-
   pub behind_unsent : AllByRecursion SendsNoNewBlock behind
-  behind_unsent = none_sent (flight_in (first ++ block ∷ []) sent) behind parts.behind_logs
-
   pub first_brings : AllByRecursion BringsNoBlock first
-  first_brings = none_comes_in sent first (subst (AllByRecursion _) (sym parts.first_logs) (tells_hear_none side said))
-
   -- behind others
-  pub together : (told : List Record) → ((told ++ first) ++ block ∷ []) ++ behind ≡ told ++ xs
-  together told =
-      append_assoc (told ++ first) (block ∷ []) behind ∙ append_assoc told first (block ∷ behind)
-      ∙ ap (λ (zs : List Record). told ++ zs) (sym parts.told_is)
+  pub together : (told : List Record)
+      → ((told ++ first) ++ block_of side process version octets ∷ []) ++ behind ≡ told ++ xs
+
+pub built_among : (side : Side) (process : ℕ) (octets : List ℕ) (said : List Event) (sent : Flight) (xs : List Record)
+    → logged sent xs ≡ all_tell side said ++ Builds side process octets ∷ []
+    → BuiltAmong side process octets said sent xs
+built_among side process octets said sent xs log_is =
+    let p = block_in side process octets said sent xs log_is in
+    let block = block_of side process p.version octets in
+    let first_said : events_of side p.first ≡ said =
+    records_events side sent p.first ∙ ap (events_in side) p.first_logs ∙ own_told side said in
+    let said_is : events_of side xs ≡ said =
+    records_events side sent xs ∙ ap (events_in side) log_is
+    ∙ events_then side (all_tell side said) (Builds side process octets ∷ [])
+    ∙ append-nil (events_in side (all_tell side said)) ∙ own_told side said in
+    let before = flight_in (p.first ++ block ∷ []) sent in
+    record {
+      first = p.first;
+      version = p.version;
+      behind = p.behind;
+      told_is = p.told_is;
+      first_logs = p.first_logs;
+      first_said = first_said;
+      first_all = first_said ∙ sym said_is;
+      first_far = records_events (other side) sent p.first ∙ ap (events_in (other side)) p.first_logs
+          ∙ far_told side said;
+      behind_told = λ z. records_events z before p.behind ∙ ap (events_in z) p.behind_logs;
+      first_unsent = none_sent_anew sent p.first
+          (subst (AllByRecursion IsUnbuilt) (sym p.first_logs) (tells_unbuilt side said));
+      behind_unsent = none_sent before p.behind p.behind_logs;
+      first_brings = none_comes_in sent p.first
+          (subst (AllByRecursion HearsNone) (sym p.first_logs) (tells_hear_none side said));
+      together = λ told.
+          append_assoc (told ++ p.first) (block ∷ []) p.behind ∙ append_assoc told p.first (block ∷ p.behind)
+          ∙ ap (λ (zs : List Record). told ++ zs) (sym p.told_is);
+    }

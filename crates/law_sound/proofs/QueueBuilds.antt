@@ -12,7 +12,6 @@ use Rattle.bearer.specs.Transparent.{data_told}
 use Rattle.bearer_pdcp.specs.Telling.{pdus_of}
 use Rattle.bearer_types.specs.Sides.{other, sender_of, sent_by}
 use Rattle.bearer_types.specs.declared.event.Event.{Event}
-use Rattle.harq.specs.declared.sender.Order.{Order}
 use Rattle.harq.specs.declared.sender.Visit.{Visit}
 use Rattle.harq.specs.declared.sender.Visit.TheVariants.{New}
 use Rattle.l2_node.specs.Building.{visit, visited}
@@ -34,7 +33,7 @@ use Rattle.rlc_um.specs.Transparent.{taken as tm_taken}
 use Rattle.law_bearer.specs.AnyBearer.Calls.{Call as BearerCall, Take as Takes, after_all}
 use Rattle.law_bearer.specs.AnyBearer.Queue.{submits}
 use Rattle.law_deliver.specs.AmChannel.Lives.{InLife, end_at}
-use Rattle.law_deliver.specs.AmFlow.Air.{Air, Calls, Step, IsBuilding, IsDone, IsVisiting, happens}
+use Rattle.law_deliver.specs.AmFlow.Air.{Air, Calls, Step, IsBuilding, IsDone, IsVisiting}
 use Rattle.law_deliver.specs.AmFlow.Channels.{held_of, only, share_of, takes_of}
 use Rattle.law_deliver.specs.AmFlow.Ups.{tells_over}
 use Rattle.law_deliver.proofs.AmFlow.Stations.{come_sound}
@@ -55,12 +54,10 @@ use Rattle.law_sent.specs.Channels.{AreRight, SentPdu, behind_all, flow_on, sent
 use Rattle.law_sent.proofs.ChannelsNamed.{as_named}
 use Rattle.law_sound.specs.BesideLaws.{station_of}
 use Rattle.law_sound.specs.LoadLaws.{name_of}
-use Rattle.law_sound.specs.NamedSteps.{SendsNoNewBlock}
-use Rattle.law_sound.proofs.BuiltRecords.{behind_told, behind_unsent, block_of, first_all, first_brings, first_far}
-use Rattle.law_sound.proofs.BuiltRecords.{first_said, first_unsent, parts, step_log, together}
+use Rattle.law_sound.proofs.BuiltRecords.{BuiltAmong, block_of, built_among, step_log}
 use Rattle.law_sound.proofs.GivenBeside.{of_both}
 use Rattle.law_sound.proofs.GivenStepFacts.{stands_at, step_bearer}
-use Rattle.law_sound.proofs.QueueAt.{AreRightRecords, IsQueuedAt, IsQueuedOn, IsRightRecord, KnowsAcked, TellsStep}
+use Rattle.law_sound.proofs.QueueAt.{AreRightRecords, IsQueuedAt, IsQueuedOn, KnowsAcked, TellsStep}
 use Rattle.law_sound.proofs.QueueBearers.{queue_writes}
 use Rattle.law_sound.proofs.QueueBeside.{AreRightHere, ArePdusOf, CanWrite, IsQueuedBy, queue_over}
 use Rattle.law_sound.proofs.QueueLaws.{passed_on}
@@ -139,14 +136,17 @@ module _ (l : ℕ) (low : l ≤ 10) (newer : List Group) (now : Group) (past : L
   log_is : logged sent xs ≡ all_tell side said ++ Builds side process octets ∷ []
   log_is = step_log side a s turn sent xs tells.logs step build
 
+  among : BuiltAmong side process octets said sent xs
+  among = built_among side process octets said sent xs log_is
+
   abbrev first : List Record
-  first = (parts side process octets said sent xs log_is).first
+  first = among.first
 
   abbrev version : ℕ
-  version = (parts side process octets said sent xs log_is).version
+  version = among.version
 
   abbrev behind : List Record
-  behind = (parts side process octets said sent xs log_is).behind
+  behind = among.behind
 
   abbrev block : Record
   block = block_of side process version octets
@@ -189,7 +189,7 @@ module _ (l : ℕ) (low : l ≤ 10) (newer : List Group) (now : Group) (past : L
   loops_parts : (z : Side) → (looped_at z l first ≡ []) × (looped_at z l (block ∷ behind) ≡ [])
   loops_parts z =
       parts_empty (looped_at z l first) (looped_at z l (block ∷ behind))
-      (sym (ap (looped_at z l) (parts side process octets said sent xs log_is).told_is
+      (sym (ap (looped_at z l) among.told_is
       ∙ looped_then z l first (block ∷ behind)) ∙ unlooped z)
 
   behind_loops : (z : Side) → looped_at z l behind ≡ []
@@ -200,15 +200,15 @@ module _ (l : ℕ) (low : l ≤ 10) (newer : List Group) (now : Group) (past : L
   -- what is told before the block, and behind it
   first_told : told_on l (events_of side first) ≡ tells_over l x (only here (Takes share held))
   first_told =
-      ap (told_on l) (first_all side process octets said sent xs log_is)
+      ap (told_on l) among.first_all
       ∙ tells_so l low newer now past none a s sent told xs tells h.new h.there side
       ∙ ap (tells_over l x) own_calls
 
   told_far : told_on l (events_of (other side) first) ≡ []
-  told_far = ap (told_on l) (first_far side process octets said sent xs log_is)
+  told_far = ap (told_on l) among.first_far
 
   told_behind : (z : Side) → told_on l (events_of z behind) ≡ []
-  told_behind z = ap (told_on l) (behind_told side process octets said sent xs log_is z)
+  told_behind z = ap (told_on l) (among.behind_told z)
 
   -- ---- what it tells stands together
 
@@ -219,13 +219,12 @@ module _ (l : ℕ) (low : l ≤ 10) (newer : List Group) (now : Group) (past : L
 
   first_stands : StandTogether side said first
   first_stands =
-      let p = parts side process octets said sent xs log_is in
       let all = visit_stands side (subst (λ (y : Step). TellsTogether (InLife y) a xs) step tells.tells) in
       let said_is : events_of side xs ≡ said =
-      sym (first_all side process octets said sent xs log_is) ∙ first_said side process octets said sent xs log_is in
+      sym among.first_all ∙ among.first_said in
       first_together side said all.before all.behind first (block ∷ behind)
       (subst (AllByRecursion IsOfEnd) said_is (tells_ends side xs))
-      (behind_told side process octets said sent xs log_is side) (sym p.told_is ∙ all.are)
+      (among.behind_told side) (sym among.told_is ∙ all.are)
 
   -- ---- what the block carries
 
@@ -243,7 +242,7 @@ module _ (l : ℕ) (low : l ≤ 10) (newer : List Group) (now : Group) (past : L
   named_so =
       ap (λ (z : Side). as_named (named_of z at_first)) (from_side side)
       ∙ named_told l low newer now past none told first side sent said
-      (parts side process octets said sent xs log_is).first_logs (h.silent side) h.alike
+      among.first_logs (h.silent side) h.alike
 
   on_it : AreOnChannel l (sent_by side) octets (sent_pdus said) ps
   on_it =
@@ -262,7 +261,7 @@ module _ (l : ℕ) (low : l ≤ 10) (newer : List Group) (now : Group) (past : L
       let writes_is : pdus x share held ≡ pdus_of r =
       ap (λ (b : BearerFlow). pdus b share held) t.1 ∙ transparent_writes t.0 share held in
       passed_first side l now past told first said f ps none first_stands
-      (first_unsent side process octets said sent xs log_is) (loops_parts side).0 (not_data x f (h.queued side).queued)
+      among.first_unsent (loops_parts side).0 (not_data x f (h.queued side).queued)
       (h.queued side).stands plain
       (none_passed_on l (named_of side (sending_first now past told)) (sym (h.alike side) ∙ h.silent side))
       (passed_in l (sent_by side) octets (sent_pdus said) (named_of (sender_of (sent_by side)) at_first)
@@ -286,7 +285,7 @@ module _ (l : ℕ) (low : l ≤ 10) (newer : List Group) (now : Group) (past : L
       → (flow_on side l at_first ≡ Some (queue_over es f)) × AreRightOver side l first f
   goes_first es are right =
       let g = go_by_events side l first f (loops_parts side).0 in (
-        flow_goes l now past none side first told f (first_unsent side process octets said sent xs log_is)
+        flow_goes l now past none side first told f among.first_unsent
             (not_data x f (h.queued side).queued) (h.queued side).stands
             ∙ ap (λ (y : Flow). Some y) (g.flow_is ∙ ap (λ (zs : List Event). queue_over zs f) are),
         g.right (subst (λ (zs : List Event). AreRightHere zs f) (sym are) right),
@@ -324,13 +323,13 @@ module _ (l : ℕ) (low : l ≤ 10) (newer : List Group) (now : Group) (past : L
         octets_are = on_it.octets_are ∙ carried_is;
         hows_are = on_it.hows_are ∙ sym (hows_told l said)
             ∙ ap (λ (zs : List Event). map (λ n. n.how) (sent_pdus (told_on l zs)))
-            (sym (first_said side process octets said sent xs log_is))
+            (sym among.first_said)
             ∙ ap (λ (zs : List Event). map (λ n. n.how) (sent_pdus zs)) told_is;
         passed_are = passed known told_is carried_is;
       } in
       let writes = queue_writes l x share held acked ps f can
-      (knows side first block (first_brings side process octets said sent xs log_is)
-      (first_unsent side process octets said sent xs log_is)) are (h.queued side).queued in
+      (knows side first block among.first_brings
+      among.first_unsent) are (h.queued side).queued in
       let goes = goes_first es told_is writes.right in
       record {
         mid = queue_over es f;
@@ -361,7 +360,7 @@ module _ (l : ℕ) (low : l ≤ 10) (newer : List Group) (now : Group) (past : L
 
   far_first : flow_on (other side) l at_first ≡ Some far
   far_first =
-      flow_stays l now past none (other side) first told far (first_unsent side process octets said sent xs log_is)
+      flow_stays l now past none (other side) first told far among.first_unsent
       far_plain told_far (loops_parts (other side)).0 (h.queued (other side)).stands
 
   abbrev at_block : List Record
@@ -403,20 +402,21 @@ module _ (l : ℕ) (low : l ≤ 10) (newer : List Group) (now : Group) (past : L
         (sym (step_bearer l a s tells.given h.new h.there z)) (record {
           flow = (both_behind z).flow_at;
           stands = ap (λ (zs : List Record). flow_on z l (sending_first now past zs))
-              (sym (together side process octets said sent xs log_is told))
+              (sym (among.together told))
               ∙ flow_stays l now past none z behind at_block (both_behind z).flow_at
-              (behind_unsent side process octets said sent xs log_is) (plain_behind z) (told_behind z)
+              among.behind_unsent (plain_behind z) (told_behind z)
               (behind_loops z) (both_behind z).stands_so;
           queued = (both_behind z).queued;
         });
-    right = subst (AreRightRecords l now past told) (sym (parts side process octets said sent xs log_is).told_is)
+    right = subst (AreRightRecords l now past told) (sym among.told_is)
         (right_then l now past none first (block ∷ behind) told
         (all_right l now past none first told (λ z. (h.queued z).flow) (λ z. (h.queued z).stands)
         (λ z. not_data (flow l (end_at z a)) (h.queued z).flow (h.queued z).queued)
-        (first_unsent side process octets said sent xs log_is) first_over)
-        (block_right l now past none side (told ++ first) process version octets built.mid built.first_flow
-        built.pdus_right,
-        all_right l now past none behind at_block (λ z. (both_behind z).flow_at) (λ z. (both_behind z).stands_so)
-        plain_behind (behind_unsent side process octets said sent xs log_is)
-        (λ z. (go_by_loops z l behind (both_behind z).flow_at (told_behind z)).right)));
+        among.first_unsent first_over) (
+          block_right l now past none side (told ++ first) process version octets built.mid built.first_flow
+              built.pdus_right,
+          all_right l now past none behind at_block (λ z. (both_behind z).flow_at) (λ z. (both_behind z).stands_so)
+              plain_behind among.behind_unsent
+              (λ z. (go_by_loops z l behind (both_behind z).flow_at (told_behind z)).right),
+        ));
   }

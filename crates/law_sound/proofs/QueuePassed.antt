@@ -194,9 +194,9 @@ unnamed false e quiet = refl
 -- a record that tells nothing of the side on the channel names none there
 none_named : (side : Side) (l : ℕ) (one : Record) → SendsNoNewBlock one → told_on l (event_of side one) ≡ []
     → names_on side l one ≡ false
-none_named Nb l (records.Of Nb (events.Send lcid how sn)) unsent quiet = 
+none_named Nb l (records.Of Nb (events.Send lcid how sn)) unsent quiet =
     unnamed (lcid == l) (events.Send lcid how sn) quiet
-none_named Ue l (records.Of Ue (events.Send lcid how sn)) unsent quiet = 
+none_named Ue l (records.Of Ue (events.Send lcid how sn)) unsent quiet =
     unnamed (lcid == l) (events.Send lcid how sn) quiet
 none_named Nb l (records.Of Ue (events.Send lcid how sn)) unsent quiet = refl
 none_named Ue l (records.Of Nb (events.Send lcid how sn)) unsent quiet = refl

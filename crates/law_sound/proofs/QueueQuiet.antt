@@ -1,6 +1,6 @@
 -- A step of a life in which no bearer of a channel writes, none being of acknowledged data: what is kept of the flow that
 -- each side sends goes on beside the bearers, and each record is right.
-use Rattle.std.proofs.Common.{◌≡◌, ◌≤◌, ℕ, Some, None, List, [], ◌∷◌, ◌++◌, refl, ap, sym, subst, ◌∙◌, ◌⊎◌, inl, inr}
+use Rattle.std.proofs.Common.{◌≡◌, ◌≤◌, ℕ, Some, None, List, [], ◌++◌, ap, sym, subst, ◌∙◌, ◌⊎◌, inl, inr}
 use Rattle.std.specs.List.{AllByRecursion, flat_map}
 use Rattle.air_record.specs.declared.record.Record.{Record}
 use Rattle.air_record.specs.Submissions.{submitted_by}
@@ -24,7 +24,6 @@ use Rattle.law_given.proofs.WaitingBearers.{step_acceptable, submits_or_tells}
 use Rattle.law_node.specs.Holding.{flow}
 use Rattle.law_run.specs.TwoEnds.Logs.{Flight}
 use Rattle.law_run.proofs.OwnPdus.Bearers.{IsQuiet}
-use Rattle.law_sent.specs.Channels.{flow_on}
 use Rattle.law_sound.specs.LivedFails.{HaveComeNew}
 use Rattle.law_sound.specs.NamedSteps.{SendsNoNewBlock}
 use Rattle.law_sound.proofs.GivenCalls.{submits_over}
