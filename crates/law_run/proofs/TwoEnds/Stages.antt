@@ -35,6 +35,7 @@ use Rattle.law_run.specs.TwoEnds.Logs.{LogEntry, Tells, all_tell, log_in, Flight
 use Rattle.law_run.specs.TwoEnds.On.{IsStation}
 use Rattle.promises.specs.Arrival.{entries_at}
 use Rattle.law_run.proofs.TwoEnds.Along.{flight_more, looped_more}
+use Rattle.law_run.proofs.TwoEnds.Together.{CallTogether}
 use Rattle.law_run.proofs.TwoEnds.Showing.{in_then, behind_then as place_then, events_own, events_hidden}
 use Rattle.law_run.proofs.TwoEnds.Going.{Marks, station, with_station, Behind, Any, Block', Renewed, Unread, Fits, IsAt}
 use Rattle.law_run.proofs.TwoEnds.Going.{ended, first_whats, IsLooped, Whats, no_whats, GoesBehind, Goes, goes_to}
@@ -415,6 +416,11 @@ plain_log side e (Visits t) p = absurd p
 plain_log side e (Receive block) p = absurd p
 plain_log side e c p = refl
 
+-- it visits no process
+plain_together : (side : Side) (e : End) (c : EndCall) (told : List Record) → IsPlain c → CallTogether side e c told
+plain_together side e (Visits t) told p = absurd p
+plain_together side e c told p = tt
+
 -- as records tell it, where the test loop drops nothing
 pub own_logged : (side : Side) (es : List Event) → TellNoLoop es → (sent : Flight)
     → logged sent (map (records.Of side) es) ≡ all_tell side es
@@ -443,6 +449,7 @@ says_so side told given e c plain stays unflown own far submits rests logs = rec
   says = λ bits l sent. plain_says bits l e c plain stays ∙ sym (unflown bits l side sent);
   hears = λ bits l sent. plain_hears l e c plain ∙ sym (unflown bits l (other side) sent);
   logs = logs;
+  together = plain_together side e c told plain;
 }
 
 pub none_flown : TellNoAir []
