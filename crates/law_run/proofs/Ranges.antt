@@ -328,6 +328,7 @@ plain-first : (n : ℕ) (k : Kind) → IsTransparentFirst (config_of n k)
 unfolding config_of
 plain-first n k = λ tm. (ap (λ (x : Kind). priority_of x n) tm, refl)
 
+-- without options it is 0
 none-first : (k : Kind) → IsFirstCount k 0
 none-first Tm = refl
 none-first Srb = refl

@@ -39,11 +39,8 @@ use Rattle.law_run.proofs.TwoEnds.Together.{CallTogether}
 use Rattle.law_run.proofs.TwoEnds.Showing.{in_then, behind_then as place_then, events_own, events_hidden}
 use Rattle.law_run.proofs.TwoEnds.Going.{Marks, station, with_station, Behind, Any, Block', Renewed, Unread, Fits, IsAt}
 use Rattle.law_run.proofs.TwoEnds.Going.{ended, first_whats, IsLooped, Whats, no_whats, GoesBehind, Goes, goes_to}
-use Rattle.law_run.proofs.TwoEnds.Steps.{call_whats}
-use Rattle.law_run.proofs.TwoEnds.Going.{TellNoAir, none, weaken, behind_then, goes_as}
-use Rattle.law_run.proofs.TwoEnds.Steps.{Says, IsPlayed, by_sides}
-use Rattle.law_run.proofs.TwoEnds.Going.{goes_none}
-use Rattle.law_run.proofs.TwoEnds.Steps.{goes_call, call_steps}
+use Rattle.law_run.proofs.TwoEnds.Going.{TellNoAir, none, weaken, behind_then, goes_as, goes_none}
+use Rattle.law_run.proofs.TwoEnds.Steps.{Says, IsPlayed, by_sides, call_whats, goes_call, call_steps}
 use Rattle.law_run.proofs.TwoEnds.Stations.{Moment, Waits, Done, wait, IsIdle, station_goes}
 
 -- ---- a link on its way, and its air

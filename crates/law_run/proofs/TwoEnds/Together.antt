@@ -1,5 +1,5 @@
 -- What an end tells in a call stands together in its records, where its process is visited for a block.
-use Rattle.std.proofs.Common.{List, [], ◌∷◌, ◌++◌, map, append_assoc, append-nil, refl, ap, sym, ◌∙◌}
+use Rattle.std.proofs.Common.{List, [], ◌++◌, map, append_assoc, append-nil, refl, ap, sym, ◌∙◌}
 use Rattle.air_record.specs.declared.record.Record.{Record}
 use Rattle.air_record.specs.declared.record.Record.TheVariants as records
 use Rattle.bearer_types.specs.declared.event.Event.{Event}
@@ -31,7 +31,7 @@ together_behind f side es told h = record {
       ∙ sym (append_assoc f h.before (map (λ (e : Event). records.Of side e) es ++ h.behind));
 }
 
--- ---- a step
+-- ---- a step, with records in front of its own
 
 pub tells_behind : (f : List Record) (x : AirStep) (a : Air) (told : List Record) → TellsTogether x a told
     → TellsTogether x a (f ++ told)
@@ -43,6 +43,7 @@ tells_behind f x a told h = tt
 
 -- ---- a call of an end
 
+-- what it tells stands together, where it is a visit
 abbrev pub CallTogether : Side → End → EndCall → List Record → Type 0
 CallTogether side e (Visits t) told = StandTogether side (told_of e (Visits t)) told
 CallTogether side e c told = Unit {0}
