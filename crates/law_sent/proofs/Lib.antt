@@ -1,6 +1,8 @@
 pub mod SenderMarks
 pub mod SenderStreams
 pub mod Senders
+pub mod UmMarks
+pub mod UmSenders
 pub mod ChannelsFlows
 pub mod ChannelsNamed
 pub mod ChannelsBlocks
