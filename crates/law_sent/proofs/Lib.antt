@@ -3,6 +3,8 @@ pub mod SenderStreams
 pub mod Senders
 pub mod ChannelsFlows
 pub mod ChannelsNamed
+pub mod FlowsBlocks
+pub mod Flows
 pub mod ChannelsBlocks
 pub mod ChannelsStay
 pub mod Channels
