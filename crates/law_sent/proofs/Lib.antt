@@ -5,6 +5,9 @@ pub mod UmMarks
 pub mod UmSenders
 pub mod ChannelsFlows
 pub mod ChannelsNamed
+pub mod FlowsBlocks
+pub mod Flows
+pub mod FlowsNamed
 pub mod ChannelsBlocks
 pub mod ChannelsStay
 pub mod Channels
