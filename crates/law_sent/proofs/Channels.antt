@@ -15,7 +15,7 @@ use Rattle.journal_given.specs.Supplies as given
 use Rattle.journal_sent.specs.SentPdus.{histories}
 use Rattle.journal_sent.specs.SentFlows.{flow_submitted, flow_discarded, flow_taken, gives_data, flow_reported}
 use Rattle.journal_sent.specs.SentFlows.{flow_settled}
-use Rattle.journal_sent.specs.Sending.{sdu_of, acked_at, released, settled, bearer_begun, renewed_by}
+use Rattle.journal_sent.specs.Sending.{sdu_of, acked_at, released, bearer_begun, renewed_by}
 use Rattle.journal_sent.specs.RightSent.{Flow, AllSent, Given}
 use Rattle.law_sent.specs.Channels.{flow_on, IsOfData, StandsOn, by_event, by_record, behind_all, sent_on, only_at}
 use Rattle.law_sent.specs.Channels.{RecordsGoAlone, LinesGoAlone, BearersBegin, GroupsEndAlone}

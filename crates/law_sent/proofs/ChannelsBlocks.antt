@@ -16,7 +16,7 @@ on_data right acked [] f h = tt
 on_data right acked (p ∷ ps) f h = (
   λ data'. (h data').0,
   on_data right acked ps (behind_one acked p f)
-  (λ data'. (h (ap is_data (sym (judged_like acked p.how p.passed p.octets f).layout) ∙ data')).1),
+      (λ data'. (h (ap is_data (sym (judged_like acked p.how p.passed p.octets f).layout) ∙ data')).1),
 )
 
 -- by any test of a PDU

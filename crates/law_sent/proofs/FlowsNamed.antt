@@ -1,6 +1,6 @@
 -- What is passed on with the PDUs that `send` records name on a channel, and where no SDU is submitted.
 use Rattle.std.proofs.Common.{◌≡◌, ℕ, ◌==◌, Bool, true, false, ◌&&◌, if◌then◌else◌, List, [], ◌∷◌, ◌++◌, map}
-use Rattle.std.proofs.Common.{Option, Some, None, option_map, refl, ap, sym, ◌∙◌, append-nil}
+use Rattle.std.proofs.Common.{Option, Some, None, option_map, refl, ap, ◌∙◌}
 use Rattle.std.proofs.lemmas.Bool.{eq-eqb}
 use Rattle.l2_types.specs.declared.event.How.TheVariants as hows
 use Rattle.l2_types.specs.declared.side.Side.{Side}
@@ -22,7 +22,7 @@ use Rattle.journal_sent.specs.declared.checker.NamedPdu.{NamedPdu}
 use Rattle.journal_sent.specs.declared.checker.PassedSdu.{PassedSdu}
 use Rattle.journal_sent.specs.SentPdus.{histories}
 use Rattle.journal_sent.specs.SentFlows.{passed_by}
-use Rattle.journal_sent.specs.Sending.{Flows, flow_at, with_flows, changed_on, flows_of, named_of, with_named}
+use Rattle.journal_sent.specs.Sending.{Flows, flow_at, with_flows, flows_of, named_of, with_named}
 use Rattle.journal_sent.specs.Sending.{judged, lcid_in, is_known, passed_as, passed_in, passed_to, event_told}
 use Rattle.journal_sent.specs.Sending.{pdu_told_by, acked_at, pdu_told, pdus_told, tells, released, settled}
 use Rattle.journal_sent.specs.Sending.{after_line, after_record}
