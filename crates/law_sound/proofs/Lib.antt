@@ -116,6 +116,7 @@ pub mod QueueBearers
 pub mod QueueSteps
 pub mod SentPdus
 pub mod SentJournals
+pub mod SentSubmitted
 pub mod SentSizes
 pub mod SentSteps
 pub mod SentQuiet
@@ -143,6 +144,7 @@ pub mod GroupCarrying
 pub mod GroupReading
 pub mod GivenMoves
 pub mod SentMoves
+pub mod SentTakes
 pub mod GroupSent
 pub mod UnackedBearers
 pub mod UnackedEnds

@@ -38,21 +38,9 @@ use Rattle.law_sound.proofs.SentBetween.{IsSentOn, HaveSizes, StandsBeside, AreS
 use Rattle.law_sound.proofs.SentCalls.{calls_keep_sent}
 use Rattle.law_sound.proofs.SentEnds.{GoesSending, group_ends}
 use Rattle.law_sound.proofs.SentRecords.{sending_first}
+use Rattle.law_sound.proofs.SentSubmitted.{submitted_sized}
 
--- ---- an SDU that isn't refused has 1 to 8188 octets
-
-pub sized_by : (empty long : Bool) (others : Option SubmitRefusal)
-    → (if empty then Some Empty else (if long then Some TooLong else others)) ≡ None
-    → (empty ≡ false) × (long ≡ false)
-sized_by true long others e = let no : Some Empty ≡ None = e in absurd cc
-sized_by false true others e = let no : Some TooLong ≡ None = e in absurd cc
-sized_by false false others e = (refl, refl)
-
-pub submitted_sized : (s : Sending) (sdu : List ℕ) → refusal s sdu ≡ None → IsSdu sdu
-unfolding refusal
-submitted_sized s sdu e =
-    let p = sized_by (length sdu == 0) (nat_lt 8188 (length sdu)) _ e in
-    (grind (arith, nat_tests, p.0), grind (arith, nat_tests, p.1))
+-- ---- an SDU that isn't refused
 
 accepted_sized : (b : State) (sdu : List ℕ) → flow_refusal (Am b) sdu ≡ None → IsSdu sdu
 unfolding flow_refusal
