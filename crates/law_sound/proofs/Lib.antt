@@ -145,7 +145,13 @@ pub mod GroupReading
 pub mod GivenMoves
 pub mod SentMoves
 pub mod SentTakes
+pub mod SentLayouts
 pub mod GroupSent
+pub mod KnownRecords
+pub mod QueueBases
+pub mod QueueSignals
+pub mod QueueGroups
+pub mod GroupRecords
 pub mod UnackedBearers
 pub mod UnackedEnds
 pub mod Elsewhere

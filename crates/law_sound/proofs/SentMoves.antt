@@ -1,8 +1,8 @@
 -- Behind a handover, the flows that both ends of a channel send stand beside them in their next life, in which nothing
 -- was written yet, under the keys of the next cell.
-use Rattle.std.proofs.Common.{◌≡◌, ℕ, ◌%◌, ◌==◌, Bool, true, false, nat_lt, List, [], ◌∷◌, ◌++◌}
-use Rattle.std.proofs.Common.{length, Option, Some, None, refl, ap, sym, subst}
-use Rattle.std.proofs.Common.{◌∙◌, arith}
+use Rattle.std.proofs.Common.{◌≡◌, ℕ, ◌%◌, List, [], ◌∷◌, ◌++◌}
+use Rattle.std.proofs.Common.{Option, Some, None, refl, ap, sym, subst}
+use Rattle.std.proofs.Common.{◌∙◌}
 use Rattle.std.specs.List.{AllByRecursion}
 use Rattle.air_record.specs.declared.line.Line.TheVariants as lines
 use Rattle.air_record.specs.declared.record.Record.{Record}
@@ -10,7 +10,7 @@ use Rattle.air_record.specs.declared.record.Record.TheVariants as records
 use Rattle.air_text.specs.Groups.{Group}
 use Rattle.bearer.specs.Acknowledged.State.{State}
 use Rattle.bearer.specs.declared.flow.Flow.{Flow as BearerFlow}
-use Rattle.bearer.specs.declared.flow.Flow.TheVariants.{Tm, Um, Am}
+use Rattle.bearer.specs.declared.flow.Flow.TheVariants.{Am}
 use Rattle.bearer_types.specs.declared.config.BearerConfig.{BearerConfig}
 use Rattle.bearer_types.specs.declared.event.Event.{Event}
 use Rattle.bearer_types.specs.declared.event.Event.TheVariants as events
@@ -18,7 +18,6 @@ use Rattle.eps_sec.specs.declared.Cipher.{Cipher}
 use Rattle.eps_sec.specs.declared.Key.{Key}
 use Rattle.eps_sec.specs.declared.Keys.{Keys}
 use Rattle.l2_node.specs.Building.{visited}
-use Rattle.l2_node.specs.End.{End}
 use Rattle.l2_node.specs.Writing.{new_block}
 use Rattle.l2_types.specs.declared.channel.Kind.TheVariants as bearers
 use Rattle.l2_types.specs.declared.event.Clock.TheVariants.{Poll}
@@ -48,8 +47,6 @@ use Rattle.law_bearer.specs.AmBearer.Calls.{IsOfData, IsIdle}
 use Rattle.law_bearer.specs.AmBearer.Lives.{restarts}
 use Rattle.law_bearer.specs.AnyBearer.Calls.{Restart, after_all, goes}
 use Rattle.law_bearer.proofs.AmBearer.Lives.{restarts_are_deeds}
-use Rattle.law_bearer.proofs.AnyBearer.SenderCalls.{all_then}
-use Rattle.law_deliver.specs.AmChannel.Delivery.{accepted, submitted_in, was_submitted}
 use Rattle.law_deliver.specs.AmChannel.Lives.{AirStep, InLife, Moves, AreLiving, lives, lives_on, end_at}
 use Rattle.law_deliver.specs.AmChannel.Lives.{all_calls}
 use Rattle.law_deliver.specs.AmFlow.Air.{Air, Calls, Step}
@@ -60,7 +57,7 @@ use Rattle.law_deliver.proofs.AmFlow.Ups.{the_end}
 use Rattle.law_given.proofs.SupplyPdusKept.{WereSubmitted}
 use Rattle.law_given.proofs.Submissions.{submissions}
 use Rattle.law_given.proofs.Tied.{calls_of_step}
-use Rattle.law_node.specs.Calls.{Call, Submit, Visits, after}
+use Rattle.law_node.specs.Calls.{Visits}
 use Rattle.law_node.specs.Holding.{flow}
 use Rattle.law_node.specs.Telling.{told_of}
 use Rattle.law_run.specs.Order.{IsRight, KeepsOrder}

@@ -1,31 +1,19 @@
 -- SDUs that are submitted to a bearer of acknowledged data have as many octets as one may have: so those have that a
 -- checker gathers over records of a group.
-use Rattle.std.proofs.Common.{◌≡◌, ◌≤◌, ℕ, ◌+◌, ◌^◌, ◌==◌, Bool, true, false, if◌then◌else◌, Option, Some, None, List}
-use Rattle.std.proofs.Common.{[], ◌∷◌, ◌++◌, map, length, nat_lt, nat_le, slice_get, append-nil, append_assoc, refl, ap}
-use Rattle.std.proofs.Common.{sym, subst, ◌∙◌, arith}
+use Rattle.std.proofs.Common.{◌≡◌, ◌≤◌, ℕ, ◌+◌, ◌==◌, Bool, true, false, if◌then◌else◌, Option, Some, None, List}
+use Rattle.std.proofs.Common.{[], ◌∷◌, ◌++◌, map, append-nil, append_assoc, refl}
+use Rattle.std.proofs.Common.{sym, subst}
 use Rattle.std.specs.List.{AllByRecursion, filter}
-use Rattle.std.proofs.lemmas.Bool.{eqb-true, ltb-false}
-use Rattle.std.proofs.lemmas.Bool.Decides.{nat_tests}
 use Rattle.air_record.specs.declared.record.Arrived.TheVariants.{Got}
 use Rattle.air_record.specs.declared.record.Record.{Record}
 use Rattle.air_record.specs.declared.record.Record.TheVariants as records
 use Rattle.air_record.specs.Submissions.{submitted_by}
 use Rattle.air_text.specs.Groups.{Group}
-use Rattle.bearer.specs.Acknowledged.State.{State}
-use Rattle.bearer.specs.declared.flow.Flow.{Flow}
-use Rattle.bearer.specs.declared.flow.Flow.TheVariants.{Am}
-use Rattle.bearer.specs.Submitting.{refusal as flow_refusal}
 use Rattle.bearer_types.specs.Sides.{sender_of}
 use Rattle.bearer_types.specs.declared.event.Event.{Event}
 use Rattle.bearer_types.specs.declared.event.Event.TheVariants as events
-use Rattle.l2_bits.specs.declared.fault.SubmitRefusal.{SubmitRefusal}
-use Rattle.l2_bits.specs.declared.fault.SubmitRefusal.TheVariants.{Empty, TooLong, Full, CountEnd}
-use Rattle.l2_node.specs.End.{End}
-use Rattle.l2_node.specs.Submitting.{refusal}
-use Rattle.l2_types.specs.declared.limits.TheConstants.{GREATEST_SDU, MOST_WAITING}
 use Rattle.l2_types.specs.declared.side.Side.{Side}
 use Rattle.l2_types.specs.declared.side.Side.TheVariants.{Nb, Ue}
-use Rattle.pdcp_tx.specs.State.{State as Sending, refusal as pdcp_refusal}
 use Rattle.promises.specs.Flows.{loops_in}
 use Rattle.promises.specs.Records.{is_looped, sdu_of}
 use Rattle.journal_flows.specs.FlowsTold.{Histories}
@@ -36,15 +24,10 @@ use Rattle.journal_given.specs.Supplies.{gives, gives_other, histories, is_take,
 use Rattle.journal_given.specs.Supplies.{takes_report, told}
 use Rattle.journal_sent.specs.RightSent.{IsSdu}
 use Rattle.journal_takes.specs.TakeEvents.{PduTaken, ReportHeard, ReportTaken, SduDiscarded, SduSubmitted}
-use Rattle.law_deliver.specs.AmChannel.Delivery.{accepted, submitted_in, was_submitted}
-use Rattle.law_deliver.specs.AmChannel.Lives.{InLife, brought, calls_at, calls_by, end_at}
-use Rattle.law_deliver.specs.AmFlow.Air.{Air, Act, Block, Calls, Comes, Goes, Station, Step, AtNb, AtUe, Passes}
 use Rattle.law_given.specs.BearerRecords.{bearer_first, bearer_heard, comes_by, confirms_by, gone_by, heard_by}
 use Rattle.law_given.specs.BearerRecords.{landed_by}
 use Rattle.law_given.specs.OneBearer.{bearer_happens, changed_if}
 use Rattle.law_given.proofs.GivenRecords.{journal_at, one_behind}
-use Rattle.law_node.specs.Calls.{Call, Submit}
-use Rattle.law_node.specs.Holding.{flow}
 use Rattle.law_given.proofs.SupplyPdusKept.{WereSubmitted}
 use Rattle.law_sound.proofs.SentBetween.{HaveSizes}
 

@@ -1,10 +1,8 @@
 -- An SDU that RLC takes of acknowledged data has as many octets as one may have, as a checker of journals gathers it.
-use Rattle.std.proofs.Common.{◌≡◌, ◌≤◌, ℕ, Bool, false, if◌then◌else◌, List, [], ◌∷◌, ◌++◌, Option, Some, None, ap, sym}
+use Rattle.std.proofs.Common.{◌≡◌, ◌≤◌, ℕ, false, List, [], ◌∷◌, ◌++◌, Option, Some, None, ap, sym}
 use Rattle.std.proofs.Common.{subst, ◌∙◌, refl}
 use Rattle.std.specs.List.{AllByRecursion}
 use Rattle.std.specs.Prelude.{IfSome}
-use Rattle.air_record.specs.declared.line.Line.{Line}
-use Rattle.air_record.specs.declared.line.Line.TheVariants as lines
 use Rattle.air_record.specs.declared.record.Record.{Record}
 use Rattle.air_record.specs.Submissions.{submitted_by}
 use Rattle.air_link.specs.Link.{end_of}
@@ -15,14 +13,13 @@ use Rattle.l2_types.specs.declared.side.Side.{Side}
 use Rattle.l2_types.specs.declared.side.Side.TheVariants.{Nb, Ue}
 use Rattle.promises.specs.Flows.{handed_in, loops_in}
 use Rattle.promises.specs.Parts.{part_of_line}
-use Rattle.journal_given.specs.Giving.{bearer_at, side_of, all_given}
+use Rattle.journal_given.specs.Giving.{bearer_at, all_given}
 use Rattle.journal_given.specs.Supplies.{Bearer, History}
 use Rattle.journal_given.specs.Supplies as given
 use Rattle.journal_sent.specs.RightSent.{IsSdu}
 use Rattle.journal_sent.specs.Sending.{sdu_in, sdu_of}
 use Rattle.law_deliver.proofs.AmFlow.Carrying.{front, rest}
 use Rattle.law_given.specs.BearerRecords.{bearer_first}
-use Rattle.law_given.specs.OneBearer.{bearer_by_line}
 use Rattle.law_given.proofs.BearerRecordsHistories.{one_bearer_by_histories}
 use Rattle.law_given.proofs.GivenRecords.{before_is}
 use Rattle.law_given.proofs.SupplyPdusKept.{kept_hold}
