@@ -113,6 +113,11 @@ pub mod QueueBeside
 pub mod QueueAt
 pub mod QueuePdcp
 pub mod QueueTm
+pub mod QueueUmLaws
+pub mod QueueUmHearing
+pub mod QueueUm
+pub mod QueueUmLives
+pub mod QueueSrb
 pub mod QueueBearers
 pub mod QueueSteps
 pub mod SentPdus

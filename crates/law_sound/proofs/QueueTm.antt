@@ -1,7 +1,7 @@
 -- A transparent bearer beside the flow that it sends, in each of its calls: the first SDU that waits is the next PDU,
 -- as it is.
-use Rattle.std.proofs.Common.{◌≡◌, ◌≤◌, ℕ, ◌+◌, ◌-◌, ◌==◌, nat_le, nat_lt, Bool, true, false, if◌then◌else◌, ◌&&◌}
-use Rattle.std.proofs.Common.{List, [], ◌∷◌, ◌++◌, length, map, Option, Some, None, refl, ap, sym, subst, ◌∙◌, arith}
+use Rattle.std.proofs.Common.{◌≡◌, ℕ, ◌+◌, ◌-◌, ◌==◌, nat_le, nat_lt, Bool, true, false, if◌then◌else◌, List, [], ◌∷◌}
+use Rattle.std.proofs.Common.{◌++◌, length, map, Option, Some, None, refl, ap, sym, subst, ◌∙◌, arith}
 use Rattle.std.specs.List.{AllByRecursion}
 use Rattle.std.proofs.lemmas.Bool.{and_from, eq-eqb}
 use Rattle.std.proofs.lemmas.Bool.Decides.{nat_tests}
@@ -9,23 +9,21 @@ use Rattle.bearer.specs.Hearing.{arriving, arrived, expiry, expired, ticking, ti
 use Rattle.bearer.specs.Submitting.{refusal as flow_refusal, submitted as flow_submitted_to}
 use Rattle.bearer.specs.Taking.{pdus, told, after as flow_after}
 use Rattle.bearer.specs.Transparent.{data_told}
-use Rattle.bearer.specs.declared.flow.Flow.{Flow as BearerFlow}
 use Rattle.bearer.specs.declared.flow.Flow.TheVariants.{Tm}
 use Rattle.bearer_pdcp.specs.Telling.{pdus_of}
-use Rattle.bearer_types.specs.declared.event.Event.{Event}
-use Rattle.bearer_types.specs.declared.event.Event.TheVariants as events
+use Rattle.eps_sec.specs.declared.Keys.{Keys}
 use Rattle.l2_bits.specs.declared.fault.SubmitRefusal.TheVariants.{Empty, TooLong, Full}
-use Rattle.l2_types.specs.declared.event.Clock.{Clock}
 use Rattle.l2_types.specs.declared.limits.TheConstants.{GREATEST_SDU, MOST_WAITING}
 use Rattle.pdu_show.specs.declared.kinds.Layout.{Layout}
 use Rattle.pdu_show.specs.declared.kinds.Layout.TheVariants as layouts
 use Rattle.rlc_pdu.specs.declared.outcome.Taken.{Taken}
 use Rattle.rlc_pdu.specs.declared.outcome.Taken.TheVariants as taken
 use Rattle.rlc_um.specs.Transparent.{Transparent, refusal, submitted, taken as tm_taken, after_take, first_of}
-use Rattle.rlc_um.specs.Transparent.{behind_first}
+use Rattle.rlc_um.specs.Transparent.{behind_first, nothing_submitted}
 use Rattle.journal_sent.specs.RightSent.{Flow, IsSdu, IsCountOf, SentAs, ShapedAs}
-use Rattle.journal_sent.specs.SentFlows.{Cover, with_covered, is_data, is_first, gives_first, flow_taken, flow_submitted}
-use Rattle.journal_sent.specs.SentFlows.{first_of as first_waiting, judges_by}
+use Rattle.journal_sent.specs.SentFlows.{Cover, with_covered, is_data, is_first, gives_first, flow_taken}
+use Rattle.journal_sent.specs.SentFlows.{flow_submitted, first_of as first_waiting, judges_by, cover_renewed}
+use Rattle.journal_sent.specs.SentFlows.{waiting_behind, flow_renewed}
 use Rattle.journal_sent.specs.SentPdus.{histories}
 use Rattle.law_bearer.specs.AnyBearer.Calls.{Call as BearerCall, Submit, Take, Arrive, Expire, Tick, SetDiscard}
 use Rattle.law_bearer.proofs.AnyBearer.Between.{IsBetween}
@@ -92,9 +90,9 @@ taken_is : (sdu : List ℕ) (more : List (List ℕ)) (f : Flow) → f.layout ≡
     → f.waiting ≡ sdu ∷ more → IsSdu sdu
     → flow_taken histories None (length sdu) None f ≡ record f { waiting = more; given = f.given + 1 }
 taken_is sdu more f layout cover waits size =
+    let length_is = eq-eqb (length sdu) (length sdu) refl in
     let covers : is_first None (length sdu) (sdu ∷ more) (record f { cover = None }) ≡ true =
-    and_from _ _ (sized sdu size) (and_from (length sdu == length sdu) true (eq-eqb (length sdu) (length sdu) refl) refl)
-    in
+    and_from _ _ (sized sdu size) (and_from (length sdu == length sdu) true length_is refl) in
     let first : is_first None (length sdu) (sdu ∷ more) f ≡ true =
     ap (λ (c : Option Cover). is_first None (length sdu) (sdu ∷ more) (record f { cover = c })) cover ∙ covers in
     ap (λ (a : Layout). if is_data a then f
@@ -147,24 +145,25 @@ passed_on l next size sdu more acked (p ∷ []) f h are =
     let sizes : AllByRecursion IsSdu (sdu ∷ more) = subst (AllByRecursion IsSdu) waits h.sizes in
     let g : Flow = record f { waiting = more; given = f.given + 1 } in
     let same = sym (taken_is sdu more f h.layout_is h.cover_is waits sizes.0) in
-    let passed : p.passed ≡ Some p.octets = are.passed_are.0 ∙ ap first_waiting waits ∙ ap (λ (x : List ℕ). Some x) (sym is) in
+    let passed : p.passed ≡ Some p.octets =
+    are.passed_are.0 ∙ ap first_waiting waits ∙ ap (λ (x : List ℕ). Some x) (sym is) in
+    let left : Transparent = record { next = next + 1; waiting = more } in
     record {
       right = (
         record {
-              sdu = sdu;
-              rest = more;
-              first = waits;
-              size = sizes.0;
-              len_is = refl;
-              count_is = subst (λ (c : Option Cover). IsCountOf c f.given None) (sym h.cover_is) refl;
-            },
+          sdu = sdu;
+          rest = more;
+          first = waits;
+          size = sizes.0;
+          len_is = refl;
+          count_is = subst (λ (c : Option Cover). IsCountOf c f.given None) (sym h.cover_is) refl;
+        },
         (tt, tt),
       );
       pdus_right = subst (λ (k : Flow). AreRight IsRightPdu acked (p ∷ []) k) same
           (one_right acked p g h.layout_is passed, tt);
-      behind = subst (λ (k : Flow). IsTransparentBy (record { next = next + 1; waiting = more }) (behind_one acked p k)) same
-          (subst (λ (k : Flow). IsTransparentBy (record { next = next + 1; waiting = more }) k)
-          (sym (one_leaves acked p g h.layout_is))
+      behind = subst (λ (k : Flow). IsTransparentBy left (behind_one acked p k)) same
+          (subst (IsTransparentBy left) (sym (one_leaves acked p g h.layout_is))
           (record { layout_is = h.layout_is; cover_is = h.cover_is; waiting_is = refl; sizes = sizes.1 }));
     }
 passed_on l next size sdu more acked (p ∷ q ∷ ps) f h are = let none = are.octets_are in absurd cc
@@ -190,3 +189,17 @@ tm_writes l b share held acked ps f can are h =
     let w = first_writes l b.next (share - 3) b.waiting acked ps f h
     (record { octets_are = are.octets_are; passed_are = are.passed_are h.cover_is }) in
     record { right = w.right; pdus_right = w.pdus_right; behind = w.behind }
+
+-- ---- the next life: what waits is dropped
+
+pub tm_restarts : (b : Transparent) (keys : Keys) (f : Flow) → IsTransparentBy b f
+    → IsTransparentBy nothing_submitted (flow_renewed histories keys f)
+tm_restarts b keys f h =
+    let none : waiting_behind f.layout f.waiting ≡ [] =
+    ap (λ (a : Layout). waiting_behind a f.waiting) h.layout_is in
+    record {
+      layout_is = h.layout_is;
+      cover_is = ap (cover_renewed keys) h.cover_is;
+      waiting_is = none;
+      sizes = subst (AllByRecursion IsSdu) (sym none) tt;
+    }
