@@ -112,6 +112,12 @@ pub mod SentBetween
 pub mod QueueBeside
 pub mod QueueAt
 pub mod QueuePdcp
+pub mod QueueTm
+pub mod QueueUmLaws
+pub mod QueueUmHearing
+pub mod QueueUm
+pub mod QueueUmLives
+pub mod QueueSrb
 pub mod QueueBearers
 pub mod QueueSteps
 pub mod SentPdus
