@@ -113,7 +113,6 @@ pub mod QueueBeside
 pub mod QueueAt
 pub mod QueuePdcp
 pub mod QueueTm
-pub mod QueueUmLaws
 pub mod QueueUmHearing
 pub mod QueueUm
 pub mod QueueUmLives

@@ -45,7 +45,7 @@ use Rattle.law_sound.proofs.QueueBeside.{ArePdusOf, CanWrite, WritesSo}
 use Rattle.law_sound.proofs.QueuePdcp.{given_if, queue_takes, queue_ticks, queue_submitted, queue_discards, queue_alike}
 use Rattle.law_sound.proofs.QueueUmHearing.{queue_then, right_then, IsStill, all_leave, all_right, Hears, with_pdcp}
 use Rattle.law_sound.proofs.QueueUmHearing.{arrival_heard, expiry_heard, timed_heard}
-use Rattle.law_sound.proofs.QueueUmLaws.{um_offers_go_on, um_senders_write_rightly}
+use Rattle.law_sent.proofs.UmSenders.{offers_go_on, writes_rightly}
 use Rattle.law_sound.proofs.SentBetween.{IsRightPdu}
 use Rattle.law_sound.proofs.SentNames.{hows_in, hows_then, taking_none}
 
@@ -140,7 +140,7 @@ given_bits (Some pdu) s = refl
 given_streams : (o : Option (List ℕ)) (s : Sender) (x : Sent) → ((pdu : List ℕ) → o ≡ Some pdu → 0 < length pdu)
     → AreUmStreamsOf s x → AreUmStreamsOf (given_to o s) (given_if o x)
 given_streams None s x some h = h
-given_streams (Some pdu) s x some h = um_offers_go_on s pdu x (some pdu refl) h
+given_streams (Some pdu) s x some h = offers_go_on s pdu x (some pdu refl) h
 
 one_fed : (bits : ℕ) (s : Sender) (w : Feeding) (f : Flow) → is_data f.layout ≡ false → IsFed bits s w f
     → IsFed bits s (fed w) f
@@ -252,7 +252,7 @@ one_written kind acked s size held [] g gives can octets named = absurd cc
 one_written kind acked s size held (p ∷ []) g gives can octets named =
     let is : p.octets ≡ umd_canonical s.bits (pdu_of s size) = cc in
     let how_is : p.how ≡ hows.New = cc in
-    let w = um_senders_write_rightly s size held kind acked p.passed g can.known can.few can.layout_is gives
+    let w = writes_rightly s size held kind acked p.passed g can.known can.few can.layout_is gives
     can.streams in
     record {
       right = (

@@ -18,7 +18,7 @@ use Rattle.journal_sent.specs.SentPdus.{histories}
 use Rattle.law_sound.proofs.QueueBeside.{IsQueueOf, IsUnackedBy}
 use Rattle.law_sound.proofs.QueuePdcp.{queue_alike, queue_begun, queue_restarts}
 use Rattle.law_sound.proofs.QueueUmHearing.{hears_queue}
-use Rattle.law_sound.proofs.QueueUmLaws.{um_senders_begin}
+use Rattle.law_sent.proofs.UmSenders.{begins_so}
 
 pub um_begins : (c : BearerConfig) (keys : Keys) (side : Side) → IsUmBits c.rlc_bits → c.first ≡ 0
     → IsUnackedBy (fresh c keys side) (flow_begun histories (layouts.Um c.rlc_bits (pdcp.Um c.pdcp_bits))
@@ -36,7 +36,7 @@ um_begins c keys side known none =
       queue = subst (λ (n : ℕ). IsQueueOf (pdcp.Um c.pdcp_bits)
           (begun_pdcp c.channel.lcid (pdcp.Um c.pdcp_bits) n keys side) first) (sym none)
           (queue_begun (pdcp.Um c.pdcp_bits) refl layout c.channel.lcid keys side);
-      streams = um_senders_begin c.rlc_bits;
+      streams = begins_so c.rlc_bits;
     }
 
 -- what waits is kept
@@ -53,7 +53,7 @@ um_restarts b keys f h =
       sender_bits = refl;
       queue = queue_restarts (pdcp.Um h.bits) refl e keys f
           (ap (λ (a : Layout). waiting_behind a f.waiting) h.layout_is ∙ queue.waiting_is) queue;
-      streams = um_senders_begin b.bits;
+      streams = begins_so b.bits;
     }
 
 pub um_settles : (b : State) (n : ℕ) (f : Flow) → IsUnackedBy b f → IsUnackedBy b (floored histories n f)
