@@ -1,6 +1,6 @@
 -- How the run of a script tells of its flows, and so what it hands up of acknowledged data, what
--- RLC takes of it, what its data PDUs carry, when its flows fail, and what its STATUS PDUs say: of
--- each journal as it is promised of every script.
+-- RLC takes of it, what it takes and sends of every bearer, when flows fail, and what STATUS PDUs
+-- say: of each journal as it is promised of every script.
 use Rattle.std.specs.Prelude.{◌≡◌, ℕ, Bool, false, List}
 use Rattle.air_run.specs.Journal.{RunPlayed}
 use Rattle.promises.specs.Delivery.{is_forged}
