@@ -52,6 +52,7 @@ use Rattle.law_run.proofs.EmptyLists.{parts_empty}
 use Rattle.law_run.proofs.Flowing.{looped_then}
 use Rattle.law_sent.specs.Channels.{AreRight, SentPdu, behind_all, flow_on, sent_on}
 use Rattle.law_sent.proofs.ChannelsNamed.{as_named}
+use Rattle.law_sent.proofs.FlowsNamed.{passed_on}
 use Rattle.law_sound.specs.BesideLaws.{station_of}
 use Rattle.law_sound.specs.LoadLaws.{name_of}
 use Rattle.law_sound.proofs.BuiltRecords.{BuiltAmong, block_of, built_among, step_log}
@@ -60,7 +61,6 @@ use Rattle.law_sound.proofs.GivenStepFacts.{stands_at, step_bearer}
 use Rattle.law_sound.proofs.QueueAt.{AreRightRecords, IsQueuedAt, IsQueuedOn, KnowsAcked, TellsStep}
 use Rattle.law_sound.proofs.QueueBearers.{queue_writes}
 use Rattle.law_sound.proofs.QueueBeside.{AreRightHere, ArePdusOf, CanWrite, IsQueuedBy, queue_over}
-use Rattle.law_sound.proofs.QueueLaws.{passed_on}
 use Rattle.law_sound.proofs.QueuePassed.{IsOfEnd, TellsAt, first_together, is_transparent, new_together}
 use Rattle.law_sound.proofs.QueuePassed.{none_passed_on, passed_first, passed_in, tells_ends, transparent_tells}
 use Rattle.law_sound.proofs.QueuePassed.{transparent_writes}

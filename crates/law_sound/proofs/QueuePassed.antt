@@ -62,10 +62,10 @@ use Rattle.law_run.proofs.EmptyLists.{parts_empty}
 use Rattle.law_run.proofs.Flowing.{looped_then}
 use Rattle.law_sent.specs.Channels.{SentPdu, flow_on, pdus_on}
 use Rattle.law_sent.proofs.ChannelsNamed.{as_named}
+use Rattle.law_sent.proofs.FlowsNamed.{names_on, passed_left, passed_on, passed_pdus, sends_what_is_passed}
 use Rattle.law_sound.specs.LoadLaws.{name_of}
 use Rattle.law_sound.specs.NamedSteps.{SendsNoNewBlock}
 use Rattle.law_sound.proofs.QueueBeside.{IsQueuedBy}
-use Rattle.law_sound.proofs.QueueLaws.{names_on, passed_left, passed_on, passed_pdus, sends_what_is_passed}
 use Rattle.law_sound.proofs.QueueRecords.{first_unsubmitted, flow_stays}
 use Rattle.law_sound.proofs.SentPdus.{ReadsAs}
 use Rattle.law_sound.proofs.SentRecords.{giving_before, sending_first, sending_next, told_both}

@@ -33,11 +33,12 @@ use Rattle.law_run.proofs.EmptyLists.{parts_empty}
 use Rattle.law_run.proofs.Flowing.{looped_then}
 use Rattle.law_sent.specs.Channels.{AreRight, behind_all, flow_on, only_at, sent_on}
 use Rattle.law_sent.specs.Flows.{event_on, record_on, submits_to}
+use Rattle.law_sent.proofs.Flows.{flows_go_on}
+use Rattle.law_sent.proofs.FlowsNamed.{record_unsubmitted, unsubmitted}
 use Rattle.law_sound.specs.NamedSteps.{SendsNoNewBlock}
 use Rattle.law_sound.proofs.BuiltRecords.{block_of}
 use Rattle.law_sound.proofs.QueueAt.{AreRightRecords, IsRightOnChannel, IsRightRecord}
 use Rattle.law_sound.proofs.QueueBeside.{AreRightHere, IsQueuedBy, queue_by, queue_over, queue_submits}
-use Rattle.law_sound.proofs.QueueLaws.{flows_go_on, record_unsubmitted, unsubmitted}
 use Rattle.law_sound.proofs.SentBetween.{IsRightPdu}
 use Rattle.law_sound.proofs.SentRecords.{giving_before, sending_first, sending_next, told_both}
 

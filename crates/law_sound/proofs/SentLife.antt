@@ -45,16 +45,16 @@ use Rattle.law_sound.specs.StepReading.{IsRead, IsFlightOf, AreReadTo}
 use Rattle.law_sound.proofs.GivenLife.{life_on}
 use Rattle.law_sound.proofs.GivenMoments.{IsGivenAt, bearer, follows_so, history}
 use Rattle.law_sound.proofs.GivenStepFacts.{stands_at}
-use Rattle.law_sound.proofs.GivenWays.{was_at}
 use Rattle.law_sound.proofs.LivedFails.{AreThere, lived_there}
 use Rattle.law_sound.proofs.LoggedEvents.{IsUnbuilt, none_sent_anew}
 use Rattle.law_sound.proofs.SentBetween.{AreSentBeside, IsSentOn, StandsBeside}
 use Rattle.law_sound.proofs.SentBuilds.{built_on}
 use Rattle.law_sound.proofs.SentJournals.{acked_behind, named_more, named_told}
 use Rattle.law_sound.proofs.SentRecords.{sending_first}
-use Rattle.law_sound.proofs.SentSizes.{sizes_over, step_sizes}
+use Rattle.law_sound.proofs.SentSizes.{sizes_over}
 use Rattle.law_sound.proofs.SentQuiet.{GoesBy, goes_by, stays_beside}
 use Rattle.law_sound.proofs.SentSteps.{BuildsNone, BuildsOne, HowItBuilds, done_act, how_it_builds}
+use Rattle.law_sound.proofs.SentSubmitted.{all_sized}
 use Rattle.law_sound.proofs.StepCarrying.{AllSaid}
 
 module _ (l : ℕ) (low : l ≤ 10) (newer : List Group) (now : Group) (past : List Group)
@@ -190,7 +190,7 @@ module _ (l : ℕ) (low : l ≤ 10) (newer : List Group) (now : Group) (past : L
               ue = after.beside Ue;
               sizes = sizes_over l low newer now past none told xs w.gathered w'.gathered w.is w'.is
                   (subst (AllByRecursion IsSdu) (sym (looped Ue l))
-                  (step_sizes l Ue air s (bearer l c nb ue steps w.tied Ue) (was_at l c nb ue steps w.tied Ue)))
+                  (all_sized l (calls_at Ue air (InLife s)) (end_at Ue air)))
                   v.beside.sizes;
             };
             alike = named_more l low newer now past none xs told v.alike;
