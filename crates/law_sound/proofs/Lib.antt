@@ -172,3 +172,4 @@ pub mod GroupBearers
 pub mod GoneRecords
 pub mod AgreeJournals
 pub mod LaterRecords
+pub mod KnownTold

@@ -191,7 +191,7 @@ module _ (P : Event → Type 0) where
     pub bad_pdcp : (fault : PdcpRefusal) → P (BadPdcp m fault)
 
   module _ (m : ℕ) (w : OfHearing m) where
-    of_sdus : OfSdus m
+    pub of_sdus : OfSdus m
     of_sdus = record { up = w.up; drop = w.drop; integrity = w.integrity; bad_pdcp = w.bad_pdcp }
 
     arrived_sdu_holds : Hold P (of_an_arrived_sdu m)
