@@ -43,13 +43,13 @@ use Rattle.journal_sent.specs.RightSent.{RecordIsShaped, RecordTest, SentIsRight
 use Rattle.journal_sent.specs.SentFlows.{is_data}
 use Rattle.journal_sent.specs.SentPdus.{histories}
 use Rattle.journal_sent.specs.Sending.{acked_at, after_line, after_record, all_sending, has_bearer, is_known, lcid_in}
-use Rattle.journal_sent.specs.Sending.{records_told, sdu_of, settled}
+use Rattle.journal_sent.specs.Sending.{sdu_of, settled}
 use Rattle.law_run.specs.Order.{KeepsOrder}
 use Rattle.law_run.proofs.BearerWalk.{adds_one, unchanged}
 use Rattle.law_sent.specs.Channels.{AreRight, SentPdu, behind_one, flow_on, pdus_on, sent_on}
 use Rattle.law_sent.proofs.ChannelsNamed.{settled_names}
 use Rattle.law_sent.proofs.FlowsBlocks.{right_on_all}
-use Rattle.law_sent.proofs.FlowsNamed.{record_unsubmitted, unsubmitted, unsubmitted_flow}
+use Rattle.law_sent.proofs.FlowsNamed.{unsubmitted_flow}
 use Rattle.law_sound.specs.ComingLaws.{TellsFlows}
 use Rattle.law_sound.specs.RunLaws.{RunsSendRightly}
 use Rattle.law_sound.proofs.Delivering.{bearer_is as bearer_on_is}
@@ -60,6 +60,7 @@ use Rattle.law_sound.proofs.KnownRecords.{HasBearer, channel_in, records_known}
 use Rattle.law_sound.proofs.QueueAt.{AreRightRecords, IsRightRecord}
 use Rattle.law_sound.proofs.QueueBearers.{IsOfQueue}
 use Rattle.law_sound.proofs.QueueGroups.{HasBases, HasNoBase, has_no_bases, queues_behind}
+use Rattle.law_sound.proofs.QueueRecords.{first_unsubmitted}
 use Rattle.law_sound.proofs.QueueSignals.{signals_have_bases}
 use Rattle.law_sound.proofs.Running.{runs_tell_flows}
 use Rattle.law_sound.proofs.SentBetween.{IsRightPdu, IsSentOn}
@@ -178,22 +179,6 @@ adds_none : (t : ℕ) (ks : List (Option Layout)) (cs : Side → Channels) (line
 adds_none t ks cs (lines.Bearer config options) [] others one l h = absurd cc
 adds_none t ks cs (lines.Bearer config options) (x ∷ told) others one l h = absurd cc
 adds_none t ks cs line told others one l h = refl
-
--- so the flows before a record are those behind the others
-first_unsubmitted : (now : Group) (past : List Group) (told : List Record) → submitted_by now.line ≡ None
-    → (sending_first now past told).submitted ≡ None
-first_unsubmitted now past told none =
-    by told (giving.after_line given.histories now.line (all_given given.histories past))
-    (after_line histories now.line (all_sending histories given.histories past))
-    (unsubmitted now.line (all_sending histories given.histories past) none)
-  where
-    by : (xs : List Record) (j : Given) (s : AllSent) → s.submitted ≡ None
-        → (records_told histories given.histories xs j s).submitted ≡ None
-    by [] j s h = h
-    by (one ∷ xs) j s h =
-        by xs (giving.after_record given.histories one j)
-        (after_record histories given.histories one (giving.settled given.histories one j) s)
-        (record_unsubmitted one (giving.settled given.histories one j) s)
 
 -- ---- each record
 
