@@ -35,7 +35,7 @@ use Rattle.journal_given.specs.Giving.{all_given, may_take_by}
 use Rattle.journal_given.specs.Supplies as given
 use Rattle.journal_given.specs.Supplies.{History}
 use Rattle.journal_lives.specs.FlowLives.{FlowLives, lives_of}
-use Rattle.journal_lives.specs.LifeEvents.{LifeEvent, running}
+use Rattle.journal_lives.specs.LifeEvents.{running}
 use Rattle.journal_lives.proofs.LivesTold.{histories as are_histories}
 use Rattle.journal_sent.specs.Sending.{acked_at}
 use Rattle.law_account.specs.History.{Follows}
@@ -45,7 +45,6 @@ use Rattle.law_deliver.proofs.AmFlow.Carrying.{front, rest}
 use Rattle.law_given.specs.BearerRecords.{flows_in}
 use Rattle.law_given.specs.OneBearer.{OneChannel, first_of}
 use Rattle.law_given.proofs.BearerRecordsFlows.{account_behind}
-use Rattle.law_given.proofs.GivenRecords.{BringsNoBlock}
 use Rattle.law_given.proofs.OneBearerGroups.{one_channel_by_groups}
 use Rattle.law_node.specs.Holding.{flow}
 use Rattle.law_run.specs.TwoEnds.Logs.{Flight, process_of, flight_in, logged, log_at}
@@ -55,7 +54,6 @@ use Rattle.law_sound.specs.AlikeLaws.{AreAlike, AreAlikeJournals}
 use Rattle.law_sound.specs.BesideLaws.{ReadRecord, behind_all, IsGatheredBeside}
 use Rattle.law_sound.specs.LivedHistories.{AreLived, Moment}
 use Rattle.law_sound.specs.LoggedRecords.{records_of}
-use Rattle.law_sound.specs.NamedSteps.{SendsNoNewBlock}
 use Rattle.law_sound.specs.StepReading.{AreFormed, AreReadTo, HasCountOn, IsFlightOf, IsRead}
 use Rattle.law_sound.proofs.AlikeHistories.{alike_acked, alike_lives}
 use Rattle.law_sound.proofs.AlikeJournals.{alike_journals}
@@ -90,7 +88,7 @@ base_low : (es fs : List FlowEvent) (b d : ℕ) (ns ms : List SentNumber) → Ac
 base_low es fs b d ns ms one another same = elim (cases_lt d b) [
   | inl less ↦
       (let acked : is_acked es d ≡ true = one.below d less in
-      let open : is_acked es d ≡ false = ap (λ (p : ℕ → Bool). p d) same ∙ another.opens in
+      let not_so : is_acked es d ≡ false = ap (λ (p : ℕ → Bool). p d) same ∙ another.opens in
       absurd cc)
   | inr le ↦ le
 ]

@@ -1,16 +1,15 @@
 -- What is known of acknowledgements in each group of a journal, on a channel with bearers of signalling: by the history
 -- of each flow, as both ends follow it.
-use Rattle.std.proofs.Common.{◌≡◌, ℕ, true, false, List, [], ◌∷◌, ◌++◌, Some, subst, ap, sym, ◌∙◌, refl}
+use Rattle.std.proofs.Common.{◌≡◌, ℕ, true, false, List, [], ◌∷◌, Some, ap, sym, subst, ◌∙◌}
 use Rattle.air_text.specs.Groups.{Group}
 use Rattle.bearer_types.specs.declared.config.BearerConfig.{BearerConfig}
-use Rattle.l2_types.specs.declared.channel.Kind.{Kind}
 use Rattle.l2_types.specs.declared.channel.Kind.TheVariants as bearers
 use Rattle.prioritise.proofs.ChannelLemmas.{both_false}
 use Rattle.promises.specs.Configs.{config_of}
 use Rattle.promises.specs.Delivery.{forges, is_forged}
 use Rattle.journal_flows.specs.Accounts.{is_acked_kind}
 use Rattle.journal_flows.specs.FlowsTold.{histories}
-use Rattle.journal_flows.specs.Gathering.{MayTake, behind_line}
+use Rattle.journal_flows.specs.Gathering.{behind_line}
 use Rattle.journal_given.specs.Giving.{may_take_by}
 use Rattle.journal_given.specs.Supplies as given
 use Rattle.law_run.specs.Order.{KeepsOrder}
@@ -18,7 +17,7 @@ use Rattle.law_run.specs.TwoEnds.Lived.{IsAcknowledged}
 use Rattle.law_sound.specs.ComingLaws.{TellsFlows}
 use Rattle.law_sound.proofs.AlikeJournals.{alike_journals}
 use Rattle.law_sound.proofs.GroupBearers.{counts_at, formed_at, known_at, of_kind}
-use Rattle.law_sound.proofs.GroupCarrying.{IsReadBehind, config_stays, line_begun}
+use Rattle.law_sound.proofs.GroupCarrying.{config_stays, line_begun}
 use Rattle.law_sound.proofs.GroupReading.{is_read}
 use Rattle.law_sound.proofs.LivedFails.{lived_there}
 use Rattle.law_sound.proofs.QueueAcked.{ReadsTo, bases_low, reads_base}
