@@ -158,7 +158,9 @@ pub mod SentTakes
 pub mod SentLayouts
 pub mod GroupSent
 pub mod KnownRecords
+pub mod QueueAirs
 pub mod QueueBases
+pub mod QueueAcked
 pub mod QueueSignals
 pub mod QueueGroups
 pub mod GroupRecords

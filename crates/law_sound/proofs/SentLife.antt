@@ -20,6 +20,7 @@ use Rattle.promises.specs.Flows.{looped_at}
 use Rattle.promises.specs.Parts.{is_handover}
 use Rattle.journal_account.specs.Acked.{is_acked}
 use Rattle.journal_account.specs.FlowEvents.{FlowEvent}
+use Rattle.journal_flows.specs.Accounts.{is_acked_kind}
 use Rattle.journal_flows.specs.FlowsTold.{Histories}
 use Rattle.journal_flows.specs.Gathering.{Journal, Sending, sending_of}
 use Rattle.journal_given.specs.Supplies.{Bearer, History}
@@ -173,7 +174,8 @@ module _ (l : ℕ) (low : l ≤ 10) (newer : List Group) (now : Group) (past : L
           w.gathered w.is w.given v.beside.sizes side turn step done build (stands_so side) follows
           (λ before named. named_told l low newer now past none told before side sent said named (silent side) v.alike)
           (λ before one brings sends n.
-          acked_behind l low newer now past none c config data' stays told before side one brings sends n
+          acked_behind l low newer now past none c config (ap is_acked_kind data') stays told before side one brings
+          sends n
           ∙ ap (λ (es : List FlowEvent). is_acked es n) (history_is side)) beside_at in
           record {
             beside = built.beside;
