@@ -154,3 +154,4 @@ pub mod GroupBearers
 pub mod GoneRecords
 pub mod AgreeJournals
 pub mod LaterRecords
+pub mod QueueGroups
