@@ -154,4 +154,9 @@ pub mod GroupBearers
 pub mod GoneRecords
 pub mod AgreeJournals
 pub mod LaterRecords
+pub mod QueueLaws
+pub mod QueueWalk
+pub mod QueueAirs
+pub mod QueueLines
+pub mod QueueMoves
 pub mod QueueGroups
