@@ -154,6 +154,7 @@ pub mod GroupBearers
 pub mod GoneRecords
 pub mod AgreeJournals
 pub mod LaterRecords
+pub mod QueueBases
 pub mod QueueLaws
 pub mod QueueWalk
 pub mod QueueAirs
