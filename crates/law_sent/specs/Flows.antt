@@ -1,7 +1,7 @@
 -- What is kept of a channel of any kind, while the PDUs that a journal sends are checked, goes on by
 -- its own records alone (docs/formats/JOURNAL.md; TS 36.321 6.1.2, TS 36.322 5.1, TS 36.323 5.1.1).
-use Rattle.std.specs.Prelude.{◌≡◌, ℕ, ◌==◌, false, List, ◌∷◌, ◌++◌, [], Option, Some, None}
-use Rattle.std.specs.Prelude.{option_map}
+use Rattle.std.specs.Prelude.{◌≡◌, ℕ, ◌==◌, true, false, List, ◌∷◌, ◌++◌, [], Option, Some}
+use Rattle.std.specs.Prelude.{None, option_map}
 use Rattle.l2_types.specs.declared.event.How.TheVariants as hows
 use Rattle.l2_types.specs.declared.side.Side.{Side}
 use Rattle.l2_types.specs.declared.side.Side.TheVariants.{Ue}

@@ -113,7 +113,6 @@ pub mod QueueBeside
 pub mod QueueAt
 pub mod QueuePdcp
 pub mod QueueBearers
-pub mod QueueSteps
 pub mod SentPdus
 pub mod SentJournals
 pub mod SentSizes
@@ -156,6 +155,8 @@ pub mod AgreeJournals
 pub mod LaterRecords
 pub mod QueueBases
 pub mod QueueLaws
+pub mod QueueRecords
+pub mod QueueSteps
 pub mod QueueWalk
 pub mod QueueAirs
 pub mod QueueLines

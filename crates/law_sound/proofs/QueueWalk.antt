@@ -31,22 +31,10 @@ use Rattle.law_run.proofs.TwoEnds.Coming.{same_on}
 use Rattle.law_sound.proofs.GroupCarrying.{is_submission, hands_none, drained_silent, drained_loops}
 use Rattle.law_sound.proofs.QueueAt.{AreRightRecords, IsBase, IsQueuedAt, TellsStep}
 use Rattle.law_sound.proofs.QueueLaws.{tells_along}
+use Rattle.law_sound.proofs.QueueRecords.{right_then}
 use Rattle.law_sound.proofs.QueueSteps.{queue_step, queue_silent}
 use Rattle.law_sound.proofs.StepCarrying.{AsLooped, WithLooped, HandsOne, loops_with, looped_before, none_given}
 use Rattle.law_sound.proofs.StepCarrying.{along_or_one}
-
--- ---- records, and others behind them
-
-pub right_then : (l : ℕ) (now : Group) (past : List Group) (told xs ys : List Record)
-    → AreRightRecords l now past told xs → AreRightRecords l now past (told ++ xs) ys
-    → AreRightRecords l now past told (xs ++ ys)
-right_then l now past told [] ys p q =
-    subst (λ (zs : List Record). AreRightRecords l now past zs ys) (append-nil told) q
-right_then l now past told (one ∷ xs) ys p q = (
-  p.0,
-  right_then l now past (told ++ one ∷ []) xs ys p.1
-      (subst (λ (zs : List Record). AreRightRecords l now past zs ys) (sym (append_assoc told (one ∷ []) xs)) q),
-)
 
 module _ (l : ℕ) (low : l ≤ 10) (newer : List Group) (now : Group) (past : List Group)
     (none : submitted_by now.line ≡ None) (Base : Flight → List Record → List Record → Air → Type 0)
@@ -101,7 +89,7 @@ module _ (l : ℕ) (low : l ≤ 10) (newer : List Group) (now : Group) (past : L
             (flight_more first later sent ∙ ap (λ (zs : List Record). flight_in zs sent) (sym along.are))
             (subst (λ (zs : List Record). Base (flight_in later (flight_in first sent)) zs others b') all y.known);
         right = subst (AreRightRecords l now past told) (sym along.are)
-            (right_then l now past told first later x.1 y.right);
+            (right_then l now past none first later told x.1 y.right);
       }
   steps_gone (Moves keys ∷ steps) sent told more others a are living life along h b = absurd life
 
@@ -118,7 +106,7 @@ module _ (l : ℕ) (low : l ≤ 10) (newer : List Group) (now : Group) (past : L
   gone_on start told more others a b q x = record {
     stands = x.stands;
     known = subst (λ (t : Flight). Base t (told ++ more) others b) (flight_more told more start) x.known;
-    right = right_then l now past [] told more q.right x.right;
+    right = right_then l now past none told more [] q.right x.right;
   }
 
   module _ (start : Flight) where

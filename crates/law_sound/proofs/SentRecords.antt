@@ -109,7 +109,7 @@ own_supply Nb g b = refl
 own_supply Ue g b = refl
 
 -- what the first record tells, and what those behind it do
-told_both : (l : ℕ) (side : Side) (one : Record) (xs : List Record)
+pub told_both : (l : ℕ) (side : Side) (one : Record) (xs : List Record)
     → told_on l (events_of side (one ∷ xs)) ≡ told_on l (event_of side one) ++ told_on l (events_of side xs)
 told_both l side one xs = filter-append (is_on l) (event_of side one) (events_of side xs)
 
