@@ -154,6 +154,7 @@ pub mod GoneRecords
 pub mod AgreeJournals
 pub mod LaterRecords
 pub mod QueueBases
+pub mod QueueNamed
 pub mod QueueLaws
 pub mod QueueRecords
 pub mod QueueSteps
