@@ -153,13 +153,13 @@ pub mod GroupBearers
 pub mod GoneRecords
 pub mod AgreeJournals
 pub mod LaterRecords
+pub mod QueueAirs
 pub mod QueueBases
 pub mod QueueNamed
 pub mod QueueLaws
 pub mod QueueRecords
 pub mod QueueSteps
 pub mod QueueWalk
-pub mod QueueAirs
 pub mod QueueLines
 pub mod QueueMoves
 pub mod QueueGroups
