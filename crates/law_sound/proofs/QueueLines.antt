@@ -36,10 +36,8 @@ use Rattle.journal_sent.specs.SentFlows.{flow_settled, flow_submitted}
 use Rattle.journal_sent.specs.SentPdus.{histories}
 use Rattle.journal_sent.specs.Sending.{after_line, after_record, all_sending, named_of, released, renewed_by, settled}
 use Rattle.law_bearer.specs.AnyBearer.Calls.{Call as BearerCall, Submit as Submits, after_all}
-use Rattle.law_bearer.proofs.AnyBearer.Between.{IsBetween}
 use Rattle.law_deliver.specs.AmChannel.Lives.{AirStep, InLife, AreLiving, end_at, lives}
 use Rattle.law_deliver.specs.AmFlow.Air.{Air, Calls, Step, happens, IsGiven}
-use Rattle.law_deliver.proofs.AmFlow.Ups.{between_at, come_between}
 use Rattle.law_given.proofs.Tied.{calls_of_step}
 use Rattle.law_node.specs.Calls.{Submit}
 use Rattle.law_node.specs.Holding.{flow}
@@ -62,7 +60,7 @@ use Rattle.law_sent.proofs.ChannelsNamed.{as_named}
 use Rattle.law_sound.specs.LivedFails.{HaveComeNew}
 use Rattle.law_sound.proofs.GivenBeside.{of_both}
 use Rattle.law_sound.proofs.GivenStays.{unsubmitted_line}
-use Rattle.law_sound.proofs.GivenStepFacts.{stands_at, step_bearer}
+use Rattle.law_sound.proofs.GivenStepFacts.{step_bearer}
 use Rattle.law_sound.proofs.GivenSubmits.{far_calls, own_calls, refuses_it}
 use Rattle.law_sound.proofs.GroupCarrying.{is_submission}
 use Rattle.law_sound.proofs.LivedFails.{AreThere}
@@ -78,6 +76,7 @@ use Rattle.law_sound.proofs.SentBegins.{ends_begin, in_force}
 use Rattle.law_sound.proofs.SentKeys.{keeps_channels, none_named, none_renewed}
 use Rattle.law_sound.proofs.SentRecords.{giving_before, sending_first, sending_next}
 use Rattle.law_sound.proofs.SentStays.{begins_alike}
+use Rattle.law_sound.proofs.WaitingSteps.{bearer_between}
 
 -- ---- a group ends
 
@@ -157,12 +156,6 @@ module _ (l : ℕ) (low : l ≤ 10) (now : Group) (past : List Group) (none : su
 
 -- ---- a line that submits an SDU
 
-pub bearer_between : (l : ℕ) (side : Side) (a : Air) → HaveComeNew l a → AreThere l a
-    → IsBetween l (flow l (end_at side a))
-bearer_between l side a new there =
-    let s = stands_at side l a new there in
-    between_at l (end_at side a).bearers s.there (come_between side (end_at side a) s.come)
-
 own_to : (side : Side) (l lcid : ℕ) (octets : List ℕ) (f : Flow)
     → submits_to side l (Some (record { side = side; lcid = lcid; octets = octets })) f
     ≡ only_at (lcid == l) (flow_submitted octets) f
@@ -208,7 +201,7 @@ module _ (l : ℕ) (side : Side) (lcid : ℕ) (octets : List ℕ) where
     own_at true at h =
         subst (λ (cs : List BearerCall). IsQueuedBy (after_all (was side) cs) (flow_submitted octets f))
         (sym (own_calls l lcid octets side a true taken at))
-        (queue_keeps l (was side) (Submits octets ∷ []) f (bearer_between l side a new there)
+        (queue_keeps l (was side) (Submits octets ∷ []) f (bearer_between l a new there side)
         (inr (record { sdu = octets; calls_are = refl; accepts = accepts (end_at side a) at taken })) (tt, tt) h).behind
     own_at false at h =
         subst (λ (cs : List BearerCall). IsQueuedBy (after_all (was side) cs) f)

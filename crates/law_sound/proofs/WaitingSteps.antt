@@ -91,6 +91,14 @@ each_any : (xs : List Record) → AllByRecursion AnyRecord xs
 each_any [] = tt
 each_any (x ∷ xs) = (tt, each_any xs)
 
+-- ---- between two calls, whatever bearer it is
+
+pub bearer_between : (l : ℕ) (a : Air) → HaveComeNew l a → AreThere l a → (side : Side)
+    → IsBetween l (flow l (end_at side a))
+bearer_between l a new there side =
+    let st = stands_at side l a new there in
+    between_at l (end_at side a).bearers st.there (come_between side (end_at side a) st.come)
+
 -- ---- it goes on in a step of a life, and its queue with it
 
 module _ (l : ℕ) (a : Air) (s : Step) (given : IsGiven l a s) (new : HaveComeNew l a) (there : AreThere l a)
@@ -99,10 +107,7 @@ module _ (l : ℕ) (a : Air) (s : Step) (given : IsGiven l a s) (new : HaveComeN
   its_calls = calls_of_step l side a (InLife s)
 
   pub its_between : IsBetween l (Am h.bearer)
-  its_between =
-      let st = stands_at side l a new there in
-      subst (IsBetween l) h.bearer_is
-      (between_at l (end_at side a).bearers st.there (come_between side (end_at side a) st.come))
+  its_between = subst (IsBetween l) h.bearer_is (bearer_between l a new there side)
 
   pub its_acceptable : AreAcceptable (Am h.bearer) its_calls
   its_acceptable =
