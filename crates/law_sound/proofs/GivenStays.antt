@@ -68,7 +68,7 @@ use Rattle.law_sound.proofs.StepCarrying.{AllSaid, Carries}
 
 -- ---- lines
 
-pub unsubmitted_line : (line : Line) → is_submission line ≡ false → submitted_by line ≡ None
+unsubmitted_line : (line : Line) → is_submission line ≡ false → submitted_by line ≡ None
 unsubmitted_line (lines.Submit side lcid octets) h = absurd cc
 unsubmitted_line line h = refl
 

@@ -1,7 +1,7 @@
 -- Behind one more group whose line is no handover, on a channel whose bearers aren't of acknowledged data: what is kept
 -- of the flows stands beside both ends, and each record is right on the channel.
-use Rattle.std.proofs.Common.{◌≡◌, ◌≤◌, ℕ, ◌==◌, Bool, true, false, List, [], ◌∷◌, ◌++◌, map, Option, Some, None}
-use Rattle.std.proofs.Common.{option_map, refl, ap, sym, subst, ◌∙◌, inl, inr, arith}
+use Rattle.std.proofs.Common.{◌≡◌, ◌≤◌, ℕ, ◌==◌, Bool, true, false, List, [], ◌∷◌, ◌++◌, Option, Some, None}
+use Rattle.std.proofs.Common.{option_map, refl, ap, sym, subst, ◌∙◌, inr, arith}
 use Rattle.std.proofs.lemmas.Bool.{eqb-true}
 use Rattle.air_link.specs.Lines.{no_place}
 use Rattle.air_link.specs.Link.{end_of}
@@ -9,13 +9,12 @@ use Rattle.air_record.specs.declared.line.Line.TheVariants as lines
 use Rattle.air_record.specs.declared.record.Record.{Record}
 use Rattle.air_record.specs.declared.record.Record.TheVariants as records
 use Rattle.air_record.specs.declared.submission.Submission.{Submission}
-use Rattle.air_record.specs.Submissions.{submitted_by, unrefused}
+use Rattle.air_record.specs.Submissions.{submitted_by}
 use Rattle.air_run.specs.Playing.{acted, keys_or_none}
 use Rattle.air_text.specs.Groups.{Group}
-use Rattle.bearer.specs.Bearer.{flow_of}
 use Rattle.bearer.specs.Submitting.{refusal as flow_refusal}
 use Rattle.bearer.specs.declared.flow.Flow.{Flow as BearerFlow}
-use Rattle.bearer_types.specs.Sides.{is_same, other}
+use Rattle.bearer_types.specs.Sides.{other}
 use Rattle.bearer_types.specs.declared.config.BearerConfig.{BearerConfig}
 use Rattle.eps_sec.specs.declared.Keys.{Keys}
 use Rattle.l2_bits.specs.declared.fault.SubmitRefusal.{SubmitRefusal}
@@ -26,15 +25,14 @@ use Rattle.l2_types.specs.declared.channel.Kind.TheVariants as bearers
 use Rattle.l2_types.specs.declared.side.Side.{Side}
 use Rattle.l2_types.specs.declared.side.Side.TheVariants.{Nb, Ue}
 use Rattle.promises.specs.Delivery.{forges}
-use Rattle.promises.specs.Keys.{keys_in_force}
 use Rattle.promises.specs.Parts.{is_handover}
 use Rattle.journal_flows.specs.Accounts.{account_at}
 use Rattle.journal_given.specs.Giving as giving
 use Rattle.journal_given.specs.Supplies as given
-use Rattle.journal_sent.specs.RightSent.{AllSent, Flow, Given}
+use Rattle.journal_sent.specs.RightSent.{AllSent, Flow}
 use Rattle.journal_sent.specs.SentFlows.{flow_settled, flow_submitted}
 use Rattle.journal_sent.specs.SentPdus.{histories}
-use Rattle.journal_sent.specs.Sending.{after_line, after_record, all_sending, named_of, released, renewed_by, settled}
+use Rattle.journal_sent.specs.Sending.{all_sending, released, renewed_by}
 use Rattle.law_bearer.specs.AnyBearer.Calls.{Call as BearerCall, Submit as Submits, after_all}
 use Rattle.law_deliver.specs.AmChannel.Lives.{AirStep, InLife, AreLiving, end_at, lives}
 use Rattle.law_deliver.specs.AmFlow.Air.{Air, Calls, Step, happens, IsGiven}
@@ -47,7 +45,7 @@ use Rattle.law_run.specs.TwoEnds.Along.{at_side, IsHandedIn}
 use Rattle.law_run.specs.TwoEnds.Logs.{Flight}
 use Rattle.law_run.specs.TwoEnds.On.{IsOn}
 use Rattle.law_run.proofs.AnyAir.{at_end}
-use Rattle.law_run.proofs.BearerWalk.{adds_one, comes}
+use Rattle.law_run.proofs.BearerWalk.{adds_one}
 use Rattle.law_run.proofs.Knowing.{has_place}
 use Rattle.law_run.proofs.Past.{behind as past_behind, link_behind}
 use Rattle.law_run.proofs.Standing.{lines_tell}
@@ -59,7 +57,6 @@ use Rattle.law_sent.proofs.Channels.{bearers_begin}
 use Rattle.law_sent.proofs.ChannelsNamed.{as_named}
 use Rattle.law_sound.specs.LivedFails.{HaveComeNew}
 use Rattle.law_sound.proofs.GivenBeside.{of_both}
-use Rattle.law_sound.proofs.GivenStays.{unsubmitted_line}
 use Rattle.law_sound.proofs.GivenStepFacts.{step_bearer}
 use Rattle.law_sound.proofs.GivenSubmits.{far_calls, own_calls, refuses_it}
 use Rattle.law_sound.proofs.GroupCarrying.{is_submission}
@@ -74,7 +71,7 @@ use Rattle.law_sound.proofs.QueueRecords.{first_unsubmitted}
 use Rattle.law_sound.proofs.QueueWalk.{LineQueues, line_queues}
 use Rattle.law_sound.proofs.SentBegins.{ends_begin, in_force}
 use Rattle.law_sound.proofs.SentKeys.{keeps_channels, none_named, none_renewed}
-use Rattle.law_sound.proofs.SentRecords.{giving_before, sending_first, sending_next}
+use Rattle.law_sound.proofs.SentRecords.{giving_before, sending_first}
 use Rattle.law_sound.proofs.SentStays.{begins_alike}
 use Rattle.law_sound.proofs.WaitingSteps.{bearer_between}
 
@@ -329,40 +326,40 @@ first_zero bearers.Am first of is = absurd of
 module _ (g : Group) (past : List Group) (c : BearerConfig) (options : List ℕ)
     (right : IsRight past (record g { line = lines.Bearer c options })) (order : KeepsOrder past)
     (kind : IsOfQueue c.kind) (bases : AreBasesLow c.channel.lcid (record g { line = lines.Bearer c options }) past)
-    where
-  abbrev begun : Group
-  begun = record g { line = lines.Bearer c options }
+  where
+    abbrev begun : Group
+    begun = record g { line = lines.Bearer c options }
 
-  abbrev first_keys : Keys
-  first_keys = keys_or_none (state_behind past).rules.keys
+    abbrev first_keys : Keys
+    first_keys = keys_or_none (state_behind past).rules.keys
 
-  none_told : g.events ≡ []
-  none_told = (lines_tell (begun ∷ past) (right, order)).0
+    none_told : g.events ≡ []
+    none_told = (lines_tell (begun ∷ past) (right, order)).0
 
-  flow_begins : (side : Side) → flow_on side c.channel.lcid (sending_first begun past [])
-      ≡ Some (flow_first c side first_keys)
-  flow_begins side =
-      let h = keeps_channels past in
-      let fits = has_place c.kind c.channel.lcid right.in_range.lcid in
-      bearers_begin side c options (all_sending histories given.histories past) h.channels (omega (arith, fits))
-      ∙ ap (λ (keys : Keys). Some (flow_first c side keys)) (h.keys ∙ in_force past g c options right order)
+    flow_begins : (side : Side) → flow_on side c.channel.lcid (sending_first begun past [])
+        ≡ Some (flow_first c side first_keys)
+    flow_begins side =
+        let h = keeps_channels past in
+        let fits = has_place c.kind c.channel.lcid right.in_range.lcid in
+        bearers_begin side c options (all_sending histories given.histories past) h.channels (omega (arith, fits))
+        ∙ ap (λ (keys : Keys). Some (flow_first c side keys)) (h.keys ∙ in_force past g c options right order)
 
-  queued_first : (side : Side) → IsQueuedBy (flow c.channel.lcid (end_of side (link_behind (begun ∷ past))))
-      (flow_first c side first_keys)
-  queued_first side =
-      subst (λ (x : BearerFlow). IsQueuedBy x (flow_first c side first_keys))
-      (sym (ends_begin past g c options right order side).bearer_is)
-      (queue_begins c first_keys side kind right.in_range
-      (first_zero c.kind c.first kind (first_of_line past begun right)))
+    queued_first : (side : Side) → IsQueuedBy (flow c.channel.lcid (end_of side (link_behind (begun ∷ past))))
+        (flow_first c side first_keys)
+    queued_first side =
+        subst (λ (x : BearerFlow). IsQueuedBy x (flow_first c side first_keys))
+        (sym (ends_begin past g c options right order side).bearer_is)
+        (queue_begins c first_keys side kind right.in_range
+        (first_zero c.kind c.first kind (first_of_line past begun right)))
 
-  pub begins_queued : QueuesBehind c.channel.lcid (begun ∷ past)
-  begins_queued = record {
-    queues = λ side.
-        let f = flow_first c side first_keys in
-        group_settles c.channel.lcid begun past side f refl bases
-        (subst (λ (told : List Record). flow_on side c.channel.lcid (released (sending_first begun past told).submitted
-        (sending_first begun past told)) ≡ Some f) (sym none_told)
-        (none_released c.channel.lcid (record begun { events = [] }) past side f refl (flow_begins side)))
-        (queued_first side);
-    right = subst (AreRightRecords c.channel.lcid begun past []) (sym none_told) tt;
-  }
+    pub begins_queued : QueuesBehind c.channel.lcid (begun ∷ past)
+    begins_queued = record {
+      queues = λ side.
+          let f = flow_first c side first_keys in
+          group_settles c.channel.lcid begun past side f refl bases
+          (subst (λ (told : List Record). flow_on side c.channel.lcid (released (sending_first begun past told).submitted
+          (sending_first begun past told)) ≡ Some f) (sym none_told)
+          (none_released c.channel.lcid (record begun { events = [] }) past side f refl (flow_begins side)))
+          (queued_first side);
+      right = subst (AreRightRecords c.channel.lcid begun past []) (sym none_told) tt;
+    }

@@ -37,7 +37,7 @@ use Rattle.journal_sent.specs.RightSent.{AllSent, Flow}
 use Rattle.journal_sent.specs.SentFlows.{flow_renewed, flow_settled, flow_submitted, is_data}
 use Rattle.journal_sent.specs.SentPdus.{histories}
 use Rattle.journal_sent.specs.Sending.{all_sending, renewed_by}
-use Rattle.law_bearer.specs.AnyBearer.Calls.{Call as BearerCall, Restart, after_all, goes}
+use Rattle.law_bearer.specs.AnyBearer.Calls.{after_all}
 use Rattle.law_bearer.specs.AnyBearer.Queue.{submits}
 use Rattle.law_deliver.specs.AmChannel.Lives.{AirStep, InLife, Moves, AreLiving, calls_at, end_at, lives, lives_on}
 use Rattle.law_deliver.specs.AmFlow.Air.{Air, Step, happens, IsGiven}
@@ -63,7 +63,6 @@ use Rattle.law_run.proofs.TwoEnds.Coming.{same_on}
 use Rattle.law_run.proofs.Unlooped.{none_looped}
 use Rattle.law_sent.specs.Channels.{flow_on}
 use Rattle.law_sound.specs.LivedFails.{HaveComeNew}
-use Rattle.law_sound.specs.NamedSteps.{SendsNoNewBlock}
 use Rattle.law_sound.proofs.GivenCalls.{submits_over}
 use Rattle.law_sound.proofs.GivenLater.{gone_log_events, gone_told}
 use Rattle.law_sound.proofs.GivenStepFacts.{stands_at, step_bearer, step_there, step_told}
@@ -74,7 +73,7 @@ use Rattle.law_sound.proofs.LivedFails.{AreThere}
 use Rattle.law_sound.proofs.LoggedEvents.{IsUnbuilt, none_sent_anew}
 use Rattle.law_sound.proofs.MovingFails.{lives_come_new}
 use Rattle.law_sound.proofs.QueueAirs.{moved_there}
-use Rattle.law_sound.proofs.QueueAt.{AreRightRecords, IsAirBehind, IsQueuedOn, QueuesBehind, QueuesOn}
+use Rattle.law_sound.proofs.QueueAt.{IsAirBehind, IsQueuedOn, QueuesBehind, QueuesOn}
 use Rattle.law_sound.proofs.QueueBases.{AreBasesLow}
 use Rattle.law_sound.proofs.QueueBearers.{IsOfQueue, queue_keeps, queue_restarts, queue_settles}
 use Rattle.law_sound.proofs.QueueBeside.{AreRightHere, IsQueuedBy, IsRightHere, queue_by, queue_over, queue_submits}

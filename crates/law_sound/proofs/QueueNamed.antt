@@ -1,7 +1,7 @@
 -- Behind each group of a journal in order no PDU is named that isn't in a block: each block carries just the PDUs that
 -- are named before it.
 use Rattle.std.proofs.Common.{◌≡◌, ◌≤◌, ℕ, Bool, true, false, if◌then◌else◌, Option, None, List, [], ◌∷◌, ◌++◌, map}
-use Rattle.std.proofs.Common.{append-nil, refl, ap, sym, subst, ◌∙◌}
+use Rattle.std.proofs.Common.{append-nil, refl, ap, ◌∙◌}
 use Rattle.std.specs.List.{All, filter}
 use Rattle.std.proofs.lemmas.List.Elements.{All-head, All-tail}
 use Rattle.air_record.specs.declared.record.Record.{Record}
@@ -26,7 +26,7 @@ use Rattle.journal_flows.specs.Gathering.{Journal, MayTake, Sending, sending_of,
 use Rattle.journal_flows.specs.Gathering.{behind_record, behind_records, is_handover, within}
 use Rattle.law_given.proofs.GivenRecords.{journal_at}
 use Rattle.law_run.specs.Order.{KeepsOrder}
-use Rattle.law_run.specs.TwoEnds.Logs.{Flight, Hears, Tells, logged_at, no_flight, process_of}
+use Rattle.law_run.specs.TwoEnds.Logs.{Hears, Tells, logged_at, no_flight}
 use Rattle.law_words.specs.Sequences.{joined}
 use Rattle.law_sound.specs.NamedLogs.{named_over}
 use Rattle.law_sound.proofs.GroupBearers.{formed_at}
