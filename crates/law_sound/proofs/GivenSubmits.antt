@@ -115,7 +115,7 @@ module _ (l lcid : ℕ) (octets : List ℕ) where
       ∙ ap (λ (b : Bool). only b (Submits octets)) at
 
   -- its side's bearer is submitted it, if it is that of the channel
-  own_calls : (side : Side) (a : Air) (here : Bool) → refusal lcid octets (end_at side a) ≡ None → (lcid == l) ≡ here
+  pub own_calls : (side : Side) (a : Air) (here : Bool) → refusal lcid octets (end_at side a) ≡ None → (lcid == l) ≡ here
       → calls_of_step l side a (InLife (submits side)) ≡ only here (Submits octets)
   own_calls Nb a here taken at = taken_in a.nb.end here taken at
   own_calls Ue a here taken at = taken_in a.ue.end here taken at
@@ -128,7 +128,7 @@ module _ (l lcid : ℕ) (octets : List ℕ) where
       ∙ ap (λ (k : ℕ). flow_refusal (flow k e) octets) (sym (eqb-true lcid l at))
       ∙ taken
 
-  far_calls : (side : Side) (a : Air) → calls_of_step l (other side) a (InLife (submits side)) ≡ []
+  pub far_calls : (side : Side) (a : Air) → calls_of_step l (other side) a (InLife (submits side)) ≡ []
   far_calls Nb a = refl
   far_calls Ue a = refl
 
@@ -138,7 +138,7 @@ module _ (l lcid : ℕ) (octets : List ℕ) where
 
 -- ---- what is gathered of the line's group, by the groups before it
 
-refuses_it : (side : Side) (lcid : ℕ) (octets : List ℕ) (why : NoPlace)
+pub refuses_it : (side : Side) (lcid : ℕ) (octets : List ℕ) (why : NoPlace)
     → unrefused (records.Refused side lcid why) (Some (record { side = side; lcid = lcid; octets = octets })) ≡ None
 refuses_it side lcid octets why =
     ap (λ (b : Bool). if b then None else Some (record { side = side; lcid = lcid; octets = octets }))

@@ -97,12 +97,12 @@ pub config_stays : (l : ℕ) (line : Line) (before : Option BearerConfig) → ad
 config_stays l (lines.Bearer config options) before h = ap (λ (b : Bool). if b then Some config else before) h
 config_stays l line before h = refl
 
-drained_silent : (sent : Flight) (told : List Record) → EndsDrain told → logged sent told ≡ []
+pub drained_silent : (sent : Flight) (told : List Record) → EndsDrain told → logged sent told ≡ []
 drained_silent sent [] h = refl
 drained_silent sent (records.Drained done ∷ []) h = refl
 drained_silent sent told h = absurd h
 
-drained_loops : (told : List Record) → EndsDrain told → (side : Side) (n : ℕ) → looped_at side n told ≡ []
+pub drained_loops : (told : List Record) → EndsDrain told → (side : Side) (n : ℕ) → looped_at side n told ≡ []
 drained_loops [] h side n = nothing_looped side n
 drained_loops (records.Drained done ∷ []) h Nb n = refl
 drained_loops (records.Drained done ∷ []) h Ue n = refl
@@ -113,7 +113,7 @@ abbrev pub is_submission : Line → Bool
 is_submission (lines.Submit side lcid octets) = true
 is_submission line = false
 
-hands_none : (line : Line) → is_submission line ≡ false → (side : Side) (n : ℕ) (told : List Record)
+pub hands_none : (line : Line) → is_submission line ≡ false → (side : Side) (n : ℕ) (told : List Record)
     → handed_in side n (part_of_line line) told ≡ []
 hands_none (lines.Submit at lcid octets) h side n told = absurd cc
 hands_none line h side n told = refl

@@ -68,7 +68,7 @@ none_more side own ss named none = by (is_same side own)
     by true = ap (λ (xs : List SentPdu). named ++ map name_of xs) none ∙ append-nil named
     by false = refl
 
-record_names : (kinds : List (Option Layout)) (more : Bool) (before : Flight) (one : Record) (side : Side)
+pub record_names : (kinds : List (Option Layout)) (more : Bool) (before : Flight) (one : Record) (side : Side)
     (j : Journal Histories)
     → (sending_of side (behind_record histories kinds more one j)).named
     ≡ named_over side (logged_at before one) (sending_of side j).named

@@ -78,7 +78,7 @@ over_layout : (es : List Event) (f : Flow) → (queue_over es f).layout ≡ f.la
 over_layout [] f = refl
 over_layout (e ∷ es) f = over_layout es (queue_by e f) ∙ queue_layout e f
 
-submitted_layout : (b : Bool) (f : Flow) (waiting : List (List ℕ))
+pub submitted_layout : (b : Bool) (f : Flow) (waiting : List (List ℕ))
     → (if b then f else record f { waiting = waiting }).layout ≡ f.layout
 submitted_layout true f waiting = refl
 submitted_layout false f waiting = refl
@@ -102,7 +102,7 @@ right_both (e ∷ es) rest f right =
     let more = right_both es rest (queue_by e f) right.1 in
     ((right.0, more.0), more.1)
 
-submits_both : (sdus rest : List (List ℕ)) (f : Flow)
+pub submits_both : (sdus rest : List (List ℕ)) (f : Flow)
     → queue_submits (sdus ++ rest) f ≡ queue_submits rest (queue_submits sdus f)
 submits_both [] rest f = refl
 submits_both (sdu ∷ sdus) rest f = submits_both sdus rest (flow_submitted sdu f)

@@ -89,7 +89,7 @@ module _ (past : List Group) (g : Group) (c : BearerConfig) (options : List ℕ)
   abbrev keys : Keys
   keys = keys_or_none (state_behind past).rules.keys
 
-  ends_begin : (side : Side) → HasBegun side lcid c keys (end_of side (link_behind (now ∷ past)))
+  pub ends_begin : (side : Side) → HasBegun side lcid c keys (end_of side (link_behind (now ∷ past)))
   unfolding acted accepted bears
   ends_begin =
       let k = link_behind past in
@@ -99,7 +99,7 @@ module _ (past : List Group) (g : Group) (c : BearerConfig) (options : List ℕ)
       at_each (λ side. HasBegun side lcid c keys (end_of side (link_behind (now ∷ past))))
       (channels_begin c keys k right.in_range rest Nb here.0) (channels_begin c keys k right.in_range rest Ue here.1)
 
-  in_force : keys_in_force past ≡ keys
+  pub in_force : keys_in_force past ≡ keys
   in_force =
       (keys_stand past).early (is_first c options (state_behind past).rules (link_behind past) right.allowed).early
 

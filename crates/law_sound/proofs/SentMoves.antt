@@ -130,7 +130,7 @@ module _ (bits : ℕ) (b : State) (keys : Keys) (f : Flow) (data' : IsOfData bit
 -- ---- steps of a life in which no block is built
 
 -- no bearer writes in them
-quiet_step : (l : ℕ) (a : Air) (s : Step) → IsGiven l a s → AllByRecursion IsUnbuilt (log_at a (InLife s))
+pub quiet_step : (l : ℕ) (a : Air) (s : Step) → IsGiven l a s → AllByRecursion IsUnbuilt (log_at a (InLife s))
     → (side : Side) → AllByRecursion IsQuiet (calls_of_step l side a (InLife s))
 quiet_step l a s given unbuilt = by (how_it_builds l a s given)
   where

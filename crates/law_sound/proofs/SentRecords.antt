@@ -113,7 +113,7 @@ pub told_both : (l : ℕ) (side : Side) (one : Record) (xs : List Record)
     → told_on l (events_of side (one ∷ xs)) ≡ told_on l (event_of side one) ++ told_on l (events_of side xs)
 told_both l side one xs = filter-append (is_on l) (event_of side one) (events_of side xs)
 
-told_one : (l : ℕ) (side : Side) (one : Record)
+pub told_one : (l : ℕ) (side : Side) (one : Record)
     → told_on l (events_of side (one ∷ [])) ≡ told_on l (event_of side one)
 told_one l side one = ap (told_on l) (append-nil (event_of side one))
 

@@ -146,7 +146,7 @@ alike_names : (i j : Journal Histories) (side : Side) → AreAlikeJournals i j
 alike_names i j Nb h = ap (λ (s : Sending). s.named) h.nb
 alike_names i j Ue h = ap (λ (s : Sending). s.named) h.ue
 
-begins_alike : (l : ℕ) (line : Line) → adds_one l line ≡ false → begins_on l line ≡ false
+pub begins_alike : (l : ℕ) (line : Line) → adds_one l line ≡ false → begins_on l line ≡ false
 begins_alike l (lines.Bearer config options) h = h
 begins_alike l line h = refl
 

@@ -214,7 +214,7 @@ module _ (l : ℕ) (kind : PdcpKind) (ks : List (Option Layout)) (events : List 
 abbrev pub AsLooped : List Record → Sdus → Type 0
 AsLooped told handed = (side : Side) (n : ℕ) → length (handed side n) ≡ length (looped_at side n told)
 
-abbrev WithLooped : List Record → Sdus → Type 0
+abbrev pub WithLooped : List Record → Sdus → Type 0
 WithLooped told handed = (side : Side) (n : ℕ) → length (looped_at side n told) ≤ length (handed side n)
 
 three : (xs ys zs : List (List ℕ)) → length (xs ++ (ys ++ zs)) ≡ length xs + length ys + length zs
@@ -229,14 +229,14 @@ module _ (told more : List Record) (handed given : Sdus) (with' : WithLooped tol
   abbrev all_handed : Sdus
   all_handed side n = handed side n ++ (given side n ++ looped_at side n more)
 
-  loops_with : WithLooped (told ++ more) all_handed
+  pub loops_with : WithLooped (told ++ more) all_handed
   loops_with side n =
       let all = three (handed side n) (given side n) (looped_at side n more) in
       let loops = loops_more side n told more in
       let before = with' side n in
       omega (arith, all, loops, before)
 
-  looped_before : AsLooped (told ++ more) all_handed → AsLooped told handed
+  pub looped_before : AsLooped (told ++ more) all_handed → AsLooped told handed
   looped_before just side n =
       let all = three (handed side n) (given side n) (looped_at side n more) in
       let loops = loops_more side n told more in
@@ -244,7 +244,7 @@ module _ (told more : List Record) (handed given : Sdus) (with' : WithLooped tol
       let now = just side n in
       omega (arith, all, loops, before, now)
 
-  none_given : AsLooped (told ++ more) all_handed → (side : Side) (n : ℕ) → length (given side n) ≡ 0
+  pub none_given : AsLooped (told ++ more) all_handed → (side : Side) (n : ℕ) → length (given side n) ≡ 0
   none_given just side n =
       let all = three (handed side n) (given side n) (looped_at side n more) in
       let loops = loops_more side n told more in
@@ -257,13 +257,13 @@ pub refusal_loops : (at : Side) (n : ℕ) (side : Side) (lcid : ℕ) (why : _)
 refusal_loops Nb n side lcid why = refl
 refusal_loops Ue n side lcid why = refl
 
-record HandsOne (s : LinkStep) (k : Link) : Type 0 where
-  side : Side
-  n : ℕ
-  one : length (handed_in side n s k) ≡ 1
+pub record HandsOne (s : LinkStep) (k : Link) : Type 0 where
+  pub side : Side
+  pub n : ℕ
+  pub one : length (handed_in side n s k) ≡ 1
 
 -- the records of a step of a link stand where its steps are, or it hands one in
-along_or_one : (l : ℕ) (s : LinkStep) (k : Link) (a : Air) (g : GoesOn l s k a)
+pub along_or_one : (l : ℕ) (s : LinkStep) (k : Link) (a : Air) (g : GoesOn l s k a)
     → ((sent : Flight) → AreAlong sent g.by.steps a g.more) ⊎ HandsOne s k
 along_or_one l (Submit side lcid sdu) k a g = by (refusal lcid sdu (end_of side k)) refl
   where
