@@ -35,8 +35,8 @@ use Rattle.pdcp_rx.specs.declared.Got.{Got}
 use Rattle.pdcp_rx.specs.declared.Got.TheVariants as got_as
 use Rattle.pdcp_sec.specs.Protection.{protection_of}
 use Rattle.pdcp_tx.specs.Pdus.{width}
-use Rattle.pdcp_tx.specs.State.{State as Sending, Offer, low, offers, owed_offers, again_offer, new_offers, start, submitted}
-use Rattle.pdcp_tx.specs.State.{took_new, took, confirmed, is_overdue, after_late, ticked}
+use Rattle.pdcp_tx.specs.State.{State as Sending, Offer, low, offers, owed_offers, again_offer, new_offers, start}
+use Rattle.pdcp_tx.specs.State.{submitted, took_new, took, confirmed, is_overdue, after_late, ticked}
 use Rattle.pdcp_tx.specs.State.{reported, restarted as restarted_sending}
 use Rattle.pdcp_tx_store.specs.Given.{settled, with_ack, is_own, entry_at}
 use Rattle.pdcp_tx_store.specs.Waiting.{Waits}
@@ -331,8 +331,8 @@ quiet_go l (c ∷ cs) b q k h =
     (quiet_go l cs (called b c) q.1 (subst (IsBetween l) (is_called b c) (between_after l (Am b) c k))
     (call_queueing b c (quiet_accepted b.pdcp.tx c q.0) h))
 
-pub calls_go : (l : ℕ) (cs : List Call) (b : State) → AreAcceptable (Am b) cs → IsBetween l (Am b) → IsQueueing Srb b.pdcp
-    → QueueGoes l b cs
+pub calls_go : (l : ℕ) (cs : List Call) (b : State) → AreAcceptable (Am b) cs → IsBetween l (Am b)
+    → IsQueueing Srb b.pdcp → QueueGoes l b cs
 unfolding flow_refusal
 calls_go l cs b (inl quiet) k h = quiet_go l cs b quiet k h
 calls_go l cs b (inr one) k h =

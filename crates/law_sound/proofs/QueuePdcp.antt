@@ -1,7 +1,7 @@
 -- PDCP's sender beside what is kept of the SDUs that wait, in each thing that it does; not of acknowledged data.
-use Rattle.std.proofs.Common.{◌≡◌, ◌<◌, ◌+◌, ◌-◌, ◌%◌, ◌^◌, ◌==◌, ℕ, Bool, true, false, ◌&&◌, if◌then◌else◌, List, [], ◌∷◌}
-use Rattle.std.proofs.Common.{IfSome, ◌++◌, length, map, take, drop, Option, Some, None, option_map, slice_get, refl, ap, sym, subst}
-use Rattle.std.proofs.Common.{◌∙◌, arith}
+use Rattle.std.proofs.Common.{◌≡◌, ◌<◌, ◌+◌, ◌-◌, ◌%◌, ◌^◌, ◌==◌, ℕ, Bool, true, false, ◌&&◌, if◌then◌else◌}
+use Rattle.std.proofs.Common.{List, [], ◌∷◌, IfSome, ◌++◌, length, map, drop, Option, Some, None, option_map, slice_get}
+use Rattle.std.proofs.Common.{refl, ap, sym, subst, ◌∙◌, arith}
 use Rattle.std.proofs.lemmas.Bool.Decides.{nat_tests}
 use Rattle.std.proofs.lemmas.List.{length-append, map-append, take_all}
 use Rattle.std.specs.List.{AllByRecursion}
@@ -276,15 +276,18 @@ module _ (kind : PdcpKind) (off : is_am kind ≡ false) where
       ap (λ (es : List Event). queue_over es f) told ∙ given_so e w ws f plain waits sizes.0 h in
       let p = (queueing_passes kind off).taken e q in
       record {
-        right = subst (λ (es : List Event). AreRightHere es f) (sym told) (record {
-          sdu = w.sdu;
-          rest = sdus_of ws;
-          first = waits;
-          size = sizes.0;
-          len_is = refl;
-          count_is = subst (λ (c : Option Cover). IsCountOf c f.given (Some n)) (sym h.cover_is)
-              (ap (λ (count : ℕ). Some count) (sym h.given_is));
-        }, tt);
+        right = subst (λ (es : List Event). AreRightHere es f) (sym told) (
+          record {
+            sdu = w.sdu;
+            rest = sdus_of ws;
+            first = waits;
+            size = sizes.0;
+            len_is = refl;
+            count_is = subst (λ (c : Option Cover). IsCountOf c f.given (Some n)) (sym h.cover_is)
+                (ap (λ (count : ℕ). Some count) (sym h.given_is));
+          },
+          tt,
+        );
         queue = subst (IsQueueOf kind (after_taking e)) (sym over) (record {
           cover_is = h.cover_is ∙ ap (λ (s : Sending). covers kind s.protection) (sym after);
           waiting_is = ap (λ (xs : List Waits). sdus_of (drop 1 xs)) (sym one)
