@@ -32,7 +32,7 @@ use Rattle.prioritise.specs.Channels.{has as has_channel, place, put}
 use Rattle.prioritise.specs.Shares.{no_channels}
 use Rattle.law_words.specs.BearerOrder.{in_a_block, of_a_channel, of_an_expiry, in_a_tti, at_the_end, is_srb}
 use Rattle.law_words.specs.Sequences.{each}
-use Rattle.law_deliver.proofs.AmFlow.Events.{Hold, both, never, one, in_turn, OfWriting, OfSdus, OfHearing}
+use Rattle.law_deliver.proofs.AmFlow.Events.{Hold, both, never, one, each_one, in_turn, OfWriting, OfSdus, OfHearing}
 use Rattle.law_deliver.proofs.AmFlow.Events.{block_holds, pdu_holds, expiry_holds, tti_holds, end_holds, of_sdus}
 use Rattle.law_node.specs.Calls.{Call, Turn, Add, Tick, Visits, Receive, Expire, Move, AreGiven, after, run_end, reached}
 use Rattle.law_node.specs.Order.{channels, with_one, with_all, IsToldInOrder, of_an_item, of_items}
@@ -135,13 +135,8 @@ module _ (K : ℕ → Type 0) where
   item_known e k (sdu lcid octets) = channel_known (has lcid e.bearers) lcid (at_bearer lcid e k)
   item_known e k item = never (IsOfKnown K)
 
-  every : (is : List MacItem) → AllByRecursion (λ (i : MacItem). Unit {0}) is
-  every [] = tt
-  every (i ∷ is) = (tt, every is)
-
   block_known : (e : End) → Knows e → (r : Result (List MacItem) MacRefusal) → Hold (IsOfKnown K) (of_items e r)
-  block_known e k (Ok items) =
-      in_turn (IsOfKnown K) (λ (i : MacItem). Unit {0}) (of_an_item e) (λ i any. item_known e k i) items (every items)
+  block_known e k (Ok items) = each_one (IsOfKnown K) (of_an_item e) (item_known e k) items
   block_known e k (Err refusal) = one (IsOfKnown K) (events.BadMac refusal) (λ lcid none. absurd cc)
 
   -- ---- all its bearers

@@ -155,3 +155,4 @@ pub mod GoneRecords
 pub mod AgreeJournals
 pub mod LaterRecords
 pub mod KnownTold
+pub mod KnownBlocks
