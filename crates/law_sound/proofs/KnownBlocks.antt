@@ -1,6 +1,6 @@
 -- Where no block is forged no end tells of a PDU on a channel without a bearer, as the records of a line stand.
-use Rattle.std.proofs.Common.{◌≡◌, ℕ, zero, suc, ◌+◌, ◌==◌, Bool, true, false, cond, Option, Some, None, Result, Ok, Err, List, [], ◌∷◌, ◌++◌}
-use Rattle.std.proofs.Common.{map, sym, subst, ◌∙◌, refl, inl, inr}
+use Rattle.std.proofs.Common.{◌≡◌, ℕ, zero, suc, ◌+◌, ◌==◌, Bool, true, false, cond, Option, Some, None, Result, Ok, Err, List, [], ◌∷◌}
+use Rattle.std.proofs.Common.{map, sym, subst, refl, inl, inr}
 use Rattle.std.specs.List.{AllByRecursion, filter, list_any}
 use Rattle.air_record.specs.declared.line.Line.{Line}
 use Rattle.air_record.specs.declared.line.Line.TheVariants as lines
@@ -15,12 +15,11 @@ use Rattle.bearer_types.specs.declared.event.Event.TheVariants as events
 use Rattle.l2_types.specs.declared.channel.Channel.{Channel}
 use Rattle.l2_types.specs.declared.event.Clock.{Clock}
 use Rattle.l2_types.specs.declared.event.Clock.TheVariants.{Poll, Reorder, Prohibit}
-use Rattle.l2_types.specs.declared.event.Lost.{Lost}
 use Rattle.l2_types.specs.declared.event.Lost.TheVariants as losts
 use Rattle.l2_types.specs.declared.side.Side.{Side}
 use Rattle.l2_types.specs.declared.side.Side.TheVariants.{Nb, Ue}
 use Rattle.law_words.specs.BearerOrder.{in_a_block, of_a_channel, of_an_expiry, in_a_tti, at_the_end, is_srb}
-use Rattle.law_words.specs.Sequences.{SequencesOf, nothing, just, ◌then◌, maybe, each}
+use Rattle.law_words.specs.Sequences.{SequencesOf, just, ◌then◌, maybe, each}
 use Rattle.mac_pdu.specs.Items.{MacItem, sdu}
 use Rattle.mac_pdu.specs.Reading.{reading}
 use Rattle.mac_pdu.specs.declared.fault.MacRefusal.{MacRefusal}
@@ -28,13 +27,12 @@ use Rattle.pdu_show.specs.Show.{block_shown}
 use Rattle.pdu_show.specs.declared.kinds.Layout.{Layout}
 use Rattle.promises.proofs.ShownBlocks.{AllShown, block_shows}
 use Rattle.promises.specs.Air.{InTurn}
-use Rattle.promises.specs.Built.{block_told}
 use Rattle.promises.specs.Delivery.{forges}
 use Rattle.promises.specs.Events.{is_of_loop}
 use Rattle.promises.specs.Order.{Channels, OfRecords, EndTells, IsOfLoop, LoopTells, CanBeRead, IsFor, of_an_item}
 use Rattle.promises.specs.Order.{of_items, of_hearing, of_building, of_timers, of_leaving, IsNew, IsAgain, GoesOut}
 use Rattle.promises.specs.Order.{IsHeard, Misses, PassesOver, MayPassOver, BothPassOver, TtiTells, DrainTtiTells}
-use Rattle.promises.specs.Order.{ExpiryTells, TimerTells, ReceiverTells, ReceiversTell, SenderTells, SendersTell}
+use Rattle.promises.specs.Order.{ExpiryTells, TimerTells, ReceiverTells, ReceiversTell, SenderTells}
 use Rattle.promises.specs.Order.{HandoverTells}
 use Rattle.promises.specs.Records.{is_shown}
 use Rattle.promises.specs.Telling.{LineTells, SendersTellUnless, RoundTells, DrainTells}

@@ -156,3 +156,4 @@ pub mod AgreeJournals
 pub mod LaterRecords
 pub mod KnownTold
 pub mod KnownBlocks
+pub mod KnownRecords
