@@ -1,6 +1,6 @@
 -- What an end tells in its calls it tells of channels that have a bearer, but of a PDU that comes on one without.
 use Rattle.std.proofs.Common.{◌≡◌, ℕ, zero, suc, ◌==◌, nat_lt, Bool, true, false, ◌||◌, if◌then◌else◌, Option, Some, None, IfSome}
-use Rattle.std.proofs.Common.{unwrap_or, Result, Ok, Err, List, [], ◌∷◌, ◌++◌, insert, refl, ap, sym}
+use Rattle.std.proofs.Common.{unwrap_or, Result, Ok, Err, List, [], ◌∷◌, insert, refl, ap, sym}
 use Rattle.std.proofs.Common.{subst, ◌∙◌, arith}
 use Rattle.std.proofs.lemmas.Bool.{eq-eqb}
 use Rattle.std.proofs.lemmas.Bool.Decides.{nat_tests}
@@ -31,10 +31,9 @@ use Rattle.mac_pdu.specs.declared.fault.MacRefusal.{MacRefusal}
 use Rattle.prioritise.specs.Channels.{has as has_channel, place, put}
 use Rattle.prioritise.specs.Shares.{no_channels}
 use Rattle.law_words.specs.BearerOrder.{in_a_block, of_a_channel, of_an_expiry, in_a_tti, at_the_end, is_srb}
-use Rattle.law_words.specs.Sequences.{each}
-use Rattle.law_deliver.proofs.AmFlow.Events.{Hold, both, never, one, in_turn, OfWriting, OfSdus, OfHearing}
+use Rattle.law_deliver.proofs.AmFlow.Events.{Hold, both, never, one, each_one, in_turn, OfWriting, OfHearing}
 use Rattle.law_deliver.proofs.AmFlow.Events.{block_holds, pdu_holds, expiry_holds, tti_holds, end_holds, of_sdus}
-use Rattle.law_node.specs.Calls.{Call, Turn, Add, Tick, Visits, Receive, Expire, Move, AreGiven, after, run_end, reached}
+use Rattle.law_node.specs.Calls.{Call, Add, Tick, Visits, Receive, Expire, Move, IsGiven, AreGiven, after, run_end, reached}
 use Rattle.law_node.specs.Order.{channels, with_one, with_all, IsToldInOrder, of_an_item, of_items}
 use Rattle.law_node.specs.Telling.{told_of, told_over}
 use Rattle.law_node.proofs.Channels.{put_by_lcid, all_put}
@@ -135,13 +134,8 @@ module _ (K : ℕ → Type 0) where
   item_known e k (sdu lcid octets) = channel_known (has lcid e.bearers) lcid (at_bearer lcid e k)
   item_known e k item = never (IsOfKnown K)
 
-  every : (is : List MacItem) → AllByRecursion (λ (i : MacItem). Unit {0}) is
-  every [] = tt
-  every (i ∷ is) = (tt, every is)
-
   block_known : (e : End) → Knows e → (r : Result (List MacItem) MacRefusal) → Hold (IsOfKnown K) (of_items e r)
-  block_known e k (Ok items) =
-      in_turn (IsOfKnown K) (λ (i : MacItem). Unit {0}) (of_an_item e) (λ i any. item_known e k i) items (every items)
+  block_known e k (Ok items) = each_one (IsOfKnown K) (of_an_item e) (item_known e k) items
   block_known e k (Err refusal) = one (IsOfKnown K) (events.BadMac refusal) (λ lcid none. absurd cc)
 
   -- ---- all its bearers
@@ -237,11 +231,11 @@ module _ (K : ℕ → Type 0) where
     right : AllAre IsRight e.bearers
     knows : Knows e
 
-  stands_then : (e : End) (c : Call) → AreGiven (c ∷ []) → AddsKnown c → Stands e → Stands (after e c)
+  stands_then : (e : End) (c : Call) → IsGiven c → AddsKnown c → Stands e → Stands (after e c)
   stands_then e c g h s = record {
-    sound = call_channels_sound e c g.0 s.sound;
-    between = call_are IsBetween between_kept e c g.0 s.sound.buckets_are s.between;
-    right = call_are IsRight right_kept e c g.0 s.sound.buckets_are s.right;
+    sound = call_channels_sound e c g s.sound;
+    between = call_are IsBetween between_kept e c g s.sound.buckets_are s.between;
+    right = call_are IsRight right_kept e c g s.sound.buckets_are s.right;
     knows = knows_then e c h s.knows;
   }
 
@@ -251,7 +245,7 @@ module _ (K : ℕ → Type 0) where
   over_known (c ∷ cs) e g h s =
       both (IsOfKnown K) (told_of e c) (told_over cs (after e c))
       (call_known e c s.knows (end_told_in_order e s.between s.right))
-      (over_known cs (after e c) g.1 h.1 (stands_then e c (g.0, tt) h.0 s))
+      (over_known cs (after e c) g.1 h.1 (stands_then e c g.0 h.0 s))
 
   fresh_stands : (side : Side) (maximum : ℕ) (reports : Bool) → Stands (fresh side maximum reports)
   unfolding fresh no_channels

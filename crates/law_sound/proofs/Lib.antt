@@ -134,6 +134,7 @@ pub mod SentRecords
 pub mod SentBetween
 pub mod QueueBeside
 pub mod QueueAt
+pub mod SentSubmitted
 pub mod QueuePdcp
 pub mod QueueTm
 pub mod QueueUmHearing
@@ -143,7 +144,6 @@ pub mod QueueSrb
 pub mod QueueBearers
 pub mod SentPdus
 pub mod SentJournals
-pub mod SentSubmitted
 pub mod SentSizes
 pub mod SentSteps
 pub mod SentQuiet
@@ -165,6 +165,8 @@ pub mod SentMoves
 pub mod SentTakes
 pub mod SentLayouts
 pub mod GroupSent
+pub mod KnownTold
+pub mod KnownBlocks
 pub mod KnownRecords
 pub mod QueueAirs
 pub mod QueueBases
@@ -178,4 +180,3 @@ pub mod QueueGroups
 pub mod GroupRecords
 pub mod GroupStatuses
 pub mod KnownBearers
-pub mod KnownTold

@@ -80,7 +80,12 @@ module _ {X : Type 0} (P : X → Type 0) where
   pub whichever : {Y : Type 0} (f : Y → SequencesOf X) → ((y : Y) → Hold (f y)) → Hold (any f)
   whichever f a events r = a r.0 events r.1
 
-  -- of each of a list, of which something is known
+  -- of each of a list
+  pub each_one : {Y : Type 0} (f : Y → SequencesOf X) → ((y : Y) → Hold (f y)) → (ys : List Y) → Hold (all_of f ys)
+  each_one f a [] = never
+  each_one f a (y ∷ ys) = behind (f y) (all_of f ys) (a y) (each_one f a ys)
+
+  -- of each of a list of which something is known
   pub in_turn : {Y : Type 0} (Q : Y → Type 0) (f : Y → SequencesOf X) → ((y : Y) → Q y → Hold (f y)) → (ys : List Y)
       → AllByRecursion Q ys → Hold (all_of f ys)
   in_turn Q f a [] q = never
