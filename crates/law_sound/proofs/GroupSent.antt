@@ -139,7 +139,7 @@ nothing_on : (side : Side) (l : ℕ) → layout_on side l (all_sending histories
 nothing_on Nb l = ap (option_map (λ (f : Flow). f.layout)) (none_at 11 l None)
 nothing_on Ue l = ap (option_map (λ (f : Flow). f.layout)) (none_at 11 l None)
 
-pub all_layout : (past : List Group) (side : Side) (l : ℕ) → l ≤ 10
+all_layout : (past : List Group) (side : Side) (l : ℕ) → l ≤ 10
     → layout_on side l (all_sending histories given.histories past) ≡ layout_by (config_of l past)
 all_layout [] side l low = nothing_on side l
 all_layout (now ∷ past) side l low =

@@ -135,11 +135,11 @@ is_base l low now past none = record {
   silent = λ sent told xs others a are logs h. h;
 }
 
-order_behind : (newer past : List Group) → KeepsOrder (newer ++ past) → KeepsOrder past
+pub order_behind : (newer past : List Group) → KeepsOrder (newer ++ past) → KeepsOrder past
 order_behind [] past h = h
 order_behind (g ∷ newer) past h = order_behind newer past h.1
 
-forged_behind : (newer past : List Group) → is_forged (newer ++ past) ≡ false → is_forged past ≡ false
+pub forged_behind : (newer past : List Group) → is_forged (newer ++ past) ≡ false → is_forged past ≡ false
 forged_behind [] past h = h
 forged_behind (g ∷ newer) past h =
     forged_behind newer past (both_false (forges g.line) (is_forged (newer ++ past)) h).1

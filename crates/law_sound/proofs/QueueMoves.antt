@@ -68,7 +68,7 @@ use Rattle.law_sound.proofs.GivenLater.{gone_log_events, gone_told}
 use Rattle.law_sound.proofs.GivenStepFacts.{stands_at, step_bearer, step_there, step_told}
 use Rattle.law_sound.proofs.GroupKinds.{layout_by}
 use Rattle.law_sound.proofs.GroupReading.{moved_keys}
-use Rattle.law_sound.proofs.GroupSent.{all_layout}
+use Rattle.law_sound.proofs.SentLayouts.{all_layout}
 use Rattle.law_sound.proofs.LivedFails.{AreThere}
 use Rattle.law_sound.proofs.LoggedEvents.{IsUnbuilt, none_sent_anew}
 use Rattle.law_sound.proofs.MovingFails.{lives_come_new}
