@@ -45,8 +45,8 @@ fn obey<S: Source, K: Sink, E: Sink>(
 /// `promises` says what holds of every journal of a script, and is the law `every_journal`. Where
 /// no line forged a block, it is right as `l2 check` asks it of any journal: `delivered` says it of
 /// what goes up of acknowledged data, `statuses` of the STATUS PDUs, `takes` of what RLC takes, of
-/// status reports and of discards, `sends` of the data PDUs of acknowledged data, `fails` of the
-/// `fail` records (TS 36.323 5.1.1, 5.1.2.1.2, 5.3, 5.4, TS 36.322 5.1.3.1.1, 5.2.1, 5.2.3): the
+/// status reports and of discards, `sends` of what RLC takes and sends of every bearer, `fails` of
+/// the `fail` records (TS 36.323 5.1.1, 5.1.2.1.2, 5.3, 5.4, TS 36.322 5.1, 5.2.1, 5.2.3): the
 /// laws `runs_deliver`, `runs_report_truly`, `runs_take_rightly`, `runs_send_rightly` and
 /// `runs_fail_rightly`.
 pub fn l2_main<S: Source, K: Sink, E: Sink>(

@@ -16,7 +16,7 @@ use Rattle.air_run.specs.Run.{RunState, Left, behind_line, done, step_by}
 use Rattle.law_run.specs.Order.{state_behind, KeepsOrder}
 use Rattle.law_run.specs.Script.{NumberedLine, said, to_end, lines_of}
 use Rattle.law_run.proofs.Past.{behind, of_their_time}
-use Rattle.law_run.proofs.Ranges.{IsWithin, in-range, has-count, has-first, read-within}
+use Rattle.law_run.proofs.Ranges.{IsWithin, in-range, has-count, has-first, has-first-count, read-within}
 use Rattle.law_run.proofs.Reaching.{line_is_told}
 
 -- the groups behind a text, that says these lines, and the state that they give
@@ -43,6 +43,7 @@ adds past number line order fits allowed = record {
       in_range = in-range line fits;
       count = has-count line fits;
       transparent = has-first line fits;
+      first = has-first-count line fits;
       allowed = allowed;
       events_are = refl;
       of_its_time = of_their_time past line (behind past order);

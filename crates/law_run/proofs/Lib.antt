@@ -22,6 +22,7 @@ pub mod Knowing
 pub mod Reaching
 pub mod Growing
 pub mod Looping
+pub mod LoopedUps
 pub mod Playing
 pub mod Keys
 pub mod Counts

@@ -1,5 +1,5 @@
 -- What the test loop returns through every line.
-use Rattle.std.proofs.Common.{◌≡◌, ◌≤◌, ℕ, ◌+◌, zero, suc, Bool, true, false, List, [], ◌∷◌, ◌++◌, take, append-nil}
+use Rattle.std.proofs.Common.{◌≡◌, ℕ, ◌+◌, zero, suc, Bool, true, false, List, [], ◌∷◌, ◌++◌, take, append-nil}
 use Rattle.std.proofs.Common.{append_assoc, refl, ap, sym, subst, ◌∙◌, arith}
 use Rattle.std.specs.Prelude.{Option}
 use Rattle.air_link.specs.Draining.{drain_tti, carried, receivers_expire, is_drained}
@@ -122,7 +122,7 @@ rounds_loop (suc n) grant mode' l nothing e r =
     round_by n grant mode' l nothing e r (is_drained l) (λ m none f q. rounds_loop n grant mode' m none f q)
 
 end_is_silent : (done : ℕ) → IsSilent (records.Drained done)
-end_is_silent done = (refl, λ mode'. refl)
+end_is_silent done = record { none_back = refl; none_due = λ mode. refl; none_lost = λ k. refl }
 
 drained_back : (grant : ℕ) (l : Link) → l.out ≡ [] → IsAtRest l
     → LoopsBack l.looping.mode l (record (drained grant l).link { out = (drained grant l).journal })
@@ -175,21 +175,21 @@ record LoopsBehind (past : List Group) : Type 0 where
   mode_is : (link_behind past).looping.mode ≡ mode_in_force past
   rests : IsAtRest (link_behind past)
   part : ArePart (all_returned past ++ (link_behind past).looping.kept) (all_gone_up past)
-  others : (lcid : ℕ) → item_count lcid (all_gone_up past) ≤
-      (item_count lcid (all_returned past) + drop_count lcid (history past))
+  all : (lcid : ℕ) → item_count lcid (all_gone_up past)
+      ≡ (item_count lcid (all_returned past) + drop_count lcid (history past))
       + item_count lcid (link_behind past).looping.kept
   in_order : ReturnInOrder past
 
 first_loop : LoopsBehind []
 unfolding fresh fresh_link no_loop
-first_loop = record { mode_is = refl; rests = first_rests; part = tt; others = λ lcid. omega arith; in_order = tt }
+first_loop = record { mode_is = refl; rests = first_rests; part = tt; all = λ lcid. refl; in_order = tt }
 
 -- what a line leaves of all that
 record NextLoops (past : List Group) (g : Group) (m : Link) : Type 0 where
   returned' : AreReturned past g
   part : ArePart (all_returned (g ∷ past) ++ m.looping.kept) (all_gone_up (g ∷ past))
-  others : (lcid : ℕ) → item_count lcid (all_gone_up (g ∷ past))
-      ≤ (item_count lcid (all_returned (g ∷ past)) + drop_count lcid (history (g ∷ past))) + item_count lcid
+  all : (lcid : ℕ) → item_count lcid (all_gone_up (g ∷ past))
+      ≡ (item_count lcid (all_returned (g ∷ past)) + drop_count lcid (history (g ∷ past))) + item_count lcid
       m.looping.kept
 
 next_loops : (past : List Group) (g : Group) (m : Link) → (link_behind past).out ≡ [] → LoopsBehind past
@@ -203,15 +203,15 @@ next_loops past g m nothing b p events_are =
     let whole : ArePart (all_returned past ++ (returned g.events ++ m.looping.kept)) (all_gone_up (g ∷ past)) =
     part_on (all_returned past) kept (all_gone_up past) (returned g.events ++ m.looping.kept) (gone_up new g.events)
     b.part back.whole in
-    let others : (lcid : ℕ) → item_count lcid (all_gone_up (g ∷ past))
-    ≤ (item_count lcid (all_returned (g ∷ past)) + drop_count lcid (history (g ∷ past))) + item_count lcid
+    let all : (lcid : ℕ) → item_count lcid (all_gone_up (g ∷ past))
+    ≡ (item_count lcid (all_returned (g ∷ past)) + drop_count lcid (history (g ∷ past))) + item_count lcid
     m.looping.kept =
     λ lcid.
     let went = on_both lcid (all_gone_up past) (gone_up new g.events) in
     let came = on_both lcid (all_returned past) (returned g.events) in
     let lost : drop_count lcid (history (g ∷ past)) ≡ drop_count lcid (history past) + drop_count lcid g.events =
     count_then (is_dropped lcid) (history past) (group_records g) in
-    omega (arith, went, came, lost, b.others lcid, back.others lcid) in
+    omega (arith, went, came, lost, b.all lcid, back.all lcid) in
     record {
       returned' = record {
         in_order = λ n. part_on (all_returned past) kept (all_gone_up past) (returned (take n g.events))
@@ -219,11 +219,11 @@ next_loops past g m nothing b p events_are =
         others = λ h lcid.
             let none : item_count lcid m.looping.kept ≡ 0 =
             ap (item_count lcid) (p.rests.none_kept (ap is_keeping p.mode_is ∙ h)) in
-            omega (arith, none, others lcid);
+            omega (arith, none, all lcid);
       };
       part = subst (λ (x : List Item). ArePart x (all_gone_up (g ∷ past)))
           (sym (append_assoc (all_returned past) (returned g.events) m.looping.kept)) whole;
-      others = others;
+      all = all;
     }
 
 loops_behind : (past : List Group) → KeepsOrder past → LoopsBehind past
@@ -241,12 +241,19 @@ loops_behind (g ∷ past) (right, order) =
       mode_is = p.mode_is;
       rests = shown_rests m p.rests;
       part = next.part;
-      others = next.others;
+      all = next.all;
       in_order = (next.returned', b.in_order);
     }
 
 pub return_in_order : (past : List Group) → KeepsOrder past → ReturnInOrder past
 return_in_order past order = (loops_behind past order).in_order
+
+-- of each channel, what went up is just what came back, what was dropped, and what is kept
+pub all_come_back : (past : List Group) → KeepsOrder past → (lcid : ℕ)
+    → item_count lcid (all_gone_up past)
+    ≡ (item_count lcid (all_returned past) + drop_count lcid (history past))
+    + item_count lcid (link_behind past).looping.kept
+all_come_back past order = (loops_behind past order).all
 
 -- its mode is that of the last `loop` line
 pub mode_behind : (past : List Group) → KeepsOrder past → (link_behind past).looping.mode ≡ mode_in_force past

@@ -30,11 +30,12 @@ use Rattle.air_text.specs.Ranges.{IsInRange}
 use Rattle.air_text.proofs.Octets.{some_octets}
 use Rattle.air_text.proofs.Configs.{plain_config}
 use Rattle.promises.specs.Configs.{HasCount}
-use Rattle.law_run.specs.Order.{IsTransparentFirst, HasTransparentFirst}
+use Rattle.law_run.specs.Order.{IsTransparentFirst, HasTransparentFirst, IsFirstCount, HasFirstCount}
 
--- a configuration in its ranges, with a first COUNT of at most 32 bits; a transparent one has the highest priority
+-- a configuration in its ranges, with a first COUNT of at most 32 bits, which is 0 but for acknowledged data; a
+-- transparent one has the highest priority
 abbrev IsCounted : BearerConfig → Type 0
-IsCounted c = IsConfig c × ((c.first ≤ 4294967295) × IsTransparentFirst c)
+IsCounted c = IsConfig c × ((c.first ≤ 4294967295) × (IsTransparentFirst c × IsFirstCount c.kind c.first))
 
 -- a line likewise
 abbrev pub IsWithin : Line → Type 0
@@ -218,13 +219,20 @@ not-transparent Srb name here is = cc
 not-transparent Um name here is = cc
 not-transparent Am name here is = cc
 
+-- a first COUNT is given of acknowledged data alone
+given-first : (k : Kind) (n : ℕ) → has k Count ≡ true → IsFirstCount k n
+given-first Tm n here = cc
+given-first Srb n here = cc
+given-first Um n here = cc
+given-first Am n here = tt
+
 option-range : (c : BearerConfig) (name : Name) (text : List ℕ) → has c.kind name ≡ true → IsCounted c
     → Behind IsCounted (option_of c name text)
 option-range c Prio text has h =
     bind IsCounted (number_of 1 16 text) (λ n. Ok (record c { channel = record c.channel { priority = n } }))
     (λ n e. given IsCounted (record c { channel = record c.channel { priority = n } }) (
       (let range : (1 ≤ n) × (n ≤ 16) = number-range 1 16 n text e in assumption),
-      (h.1.0, λ tm. absurd (not-transparent c.kind Prio has tm)),
+      (h.1.0, (λ tm. absurd (not-transparent c.kind Prio has tm), h.1.1.1)),
     ))
 option-range c Pbr text has h =
     bind IsCounted (limit_of (codes "inf") 0 65535 text)
@@ -232,7 +240,7 @@ option-range c Pbr text has h =
     (λ n e. given IsCounted (record c { channel = record c.channel { pbr = n } }) (
       (let range : IfSome n (λ k. k ≤ 65535) = most-only 0 65535 n (limit-range (codes "inf") 0 65535 text n e) in
           assumption),
-      (h.1.0, λ tm. absurd (not-transparent c.kind Pbr has tm)),
+      (h.1.0, (λ tm. absurd (not-transparent c.kind Pbr has tm), h.1.1.1)),
     ))
 option-range c Bsd text has h =
     bind IsCounted (number_of 1 1000 text) (λ n. Ok (record c { channel = record c.channel { bucket = n } }))
@@ -285,7 +293,10 @@ option-range c Prohibit text has h =
     ))
 option-range c Count text has h =
     bind IsCounted (number_of 0 4294967295 text) (λ n. Ok (record c { first = n }))
-    (λ n e. given IsCounted (record c { first = n }) (assumption, (number-most 0 4294967295 n text e, h.1.1)))
+    (λ n e. given IsCounted (record c { first = n }) (
+      assumption,
+      (number-most 0 4294967295 n text e, (h.1.1.0, given-first c.kind n has)),
+    ))
 
 named-range : (c : BearerConfig) (name : Option Name) (value : List ℕ) → IsCounted c
     → Behind IsCounted (named_option c name value)
@@ -317,6 +328,17 @@ plain-first : (n : ℕ) (k : Kind) → IsTransparentFirst (config_of n k)
 unfolding config_of
 plain-first n k = λ tm. (ap (λ (x : Kind). priority_of x n) tm, refl)
 
+-- without options it is 0
+none-first : (k : Kind) → IsFirstCount k 0
+none-first Tm = refl
+none-first Srb = refl
+none-first Um = refl
+none-first Am = tt
+
+plain-begins : (n : ℕ) (k : Kind) → IsFirstCount (config_of n k).kind (config_of n k).first
+unfolding config_of
+plain-begins n k = none-first k
+
 bearer-range : (fields : List (List ℕ)) → Behind IsWithin (bearer_of fields)
 unfolding bearer_of
 bearer-range [] = refused IsWithin _
@@ -336,7 +358,7 @@ bearer-range (a ∷ b ∷ options) =
     (λ config is. given IsWithin (lines.Bearer config (joined options))
     ((options-range (config_of n k) options (
       plain_config n k fits (number-most 0 10 n a e),
-      (plain-count n k, plain-first n k),
+      (plain-count n k, (plain-first n k, plain-begins n k)),
     )).holds config is))) (refused IsWithin Range))))
 
 submit-range : (fields : List (List ℕ)) → Behind IsWithin (submit_of fields)
@@ -540,8 +562,12 @@ has-count (lines.Discard lcid count) h = tt
 has-count (lines.Drx config) h = tt
 
 pub has-first : (line : Line) → IsWithin line → HasTransparentFirst line
-has-first (lines.Bearer config options) h = h.1.1
+has-first (lines.Bearer config options) h = h.1.1.0
 has-first line h = tt
+
+pub has-first-count : (line : Line) → IsWithin line → HasFirstCount line
+has-first-count (lines.Bearer config options) h = h.1.1.1
+has-first-count line h = tt
 
 -- a line that is read has its fields in their ranges
 pub lines-in-range : (text : List ℕ) (line : Line) → read_of text ≡ Ok (Some line) → IsInRange line

@@ -67,7 +67,7 @@ sdus_still : (m : ℕ) → OfSdus IsStill m
 sdus_still m =
     record {
       up = λ sdu. refl;
-      drop = λ why. refl;
+      drop = λ why own. refl;
       integrity = λ found wanted. refl;
       bad_pdcp = λ fault. refl;
     }

@@ -1,6 +1,7 @@
 pub mod Processes
 pub mod Flying
 pub mod Stations
+pub mod Together
 pub mod Along
 pub mod Going
 pub mod Steps

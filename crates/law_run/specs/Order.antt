@@ -43,6 +43,7 @@ pub record IsRight (past : List Group) (g : Group) : Type 0 where
   pub in_range : IsInRange g.line
   pub count : HasCount g.line
   pub transparent : HasTransparentFirst g.line
+  pub first : HasFirstCount g.line
   pub allowed : refusal g.line (state_behind past).rules (state_behind past).link ≡ None
   pub events_are : g.events ≡ (behind_line g.line (state_behind past)).out
   pub of_its_time : IsOfItsTime (ttis past) (part_of_line g.line) g.events

@@ -94,8 +94,8 @@ pub fn runs_are_counted()
 /// loop on: on their channels and in their order, each at most once, cut or repeated to the size of
 /// mode A, or whole in mode B (TS 36.509 5.4). At each record that a call adds, those that have
 /// come back are part of those that the loop kept as the call began and of those that have gone up
-/// since; those that it keeps in the end come behind, and of each of the others a record tells that
-/// it finds no place. This holds of a link at rest, as it is at first and after each call.
+/// since; those that it keeps in the end come behind, and just of each of the others a record tells
+/// that it finds no place. This holds of a link at rest, as it is at first and after each call.
 pub fn loops_return_in_order()
     ensures first { FirstIsAtRest }
     ensures calls { CallsLoopBack }

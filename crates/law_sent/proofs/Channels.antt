@@ -1,176 +1,109 @@
 -- What is kept of a channel of acknowledged data goes on by its own records alone.
-use Rattle.std.proofs.Common.{◌≡◌, ℕ, ◌+◌, Bool, true, false, List, Option, Some, None, refl, ap, sym, ◌∙◌}
-use Rattle.std.proofs.Common.{subst, arith}
-use Rattle.std.proofs.lemmas.Bool.{eqb-false}
-use Rattle.std.proofs.lemmas.List.{get_or-set_same, get_or-set_other}
+use Rattle.std.proofs.Common.{◌≡◌, ℕ, ◌==◌, Bool, true, false, Option, Some, None, option_map, refl, ap, ◌∙◌, arith}
+use Rattle.std.proofs.lemmas.List.{get_or-set_same}
 use Rattle.l2_types.specs.declared.side.Side.{Side}
 use Rattle.l2_types.specs.declared.side.Side.TheVariants.{Nb, Ue}
-use Rattle.mac_pdu.specs.Reading.{reading}
 use Rattle.bearer_types.specs.declared.event.Event.{Event}
 use Rattle.bearer_types.specs.declared.event.Event.TheVariants as events
 use Rattle.bearer_types.specs.Sides.{is_same, sender_of}
-use Rattle.air_record.specs.declared.line.Line.TheVariants as lines
 use Rattle.air_record.specs.declared.record.Record.{Record}
 use Rattle.air_record.specs.declared.record.Record.TheVariants as records
 use Rattle.air_record.specs.declared.submission.Submission.{Submission}
 use Rattle.air_record.specs.Submissions.{unrefused}
-use Rattle.journal_flows.specs.Gathering.{sdus_read}
 use Rattle.journal_flows.specs.Accounts.{account_at}
 use Rattle.journal_given.specs.Supplies as given
-use Rattle.journal_sent.specs.declared.checker.PassedSdu.{PassedSdu}
 use Rattle.journal_sent.specs.SentPdus.{histories}
 use Rattle.journal_sent.specs.SentFlows.{flow_submitted, flow_discarded, flow_taken, gives_data, flow_reported}
 use Rattle.journal_sent.specs.SentFlows.{flow_settled}
-use Rattle.journal_sent.specs.Sending.{changed, judged, sdu_of, names, named_of, event_told, is_known, acked_at}
-use Rattle.journal_sent.specs.Sending.{lcid_in, has_bearer, take_told, tells, submits_own, released, settled}
-use Rattle.journal_sent.specs.Sending.{bearer_begun, after_line, after_record, renewed_by, flow_closed, closed}
-use Rattle.journal_sent.specs.Sending.{after_group}
+use Rattle.journal_sent.specs.Sending.{sdu_of, acked_at, released, bearer_begun, renewed_by}
 use Rattle.journal_sent.specs.RightSent.{Flow, AllSent, Given}
-use Rattle.law_sent.specs.Channels.{flow_on, StandsOn, pdus_on, by_event, by_record, behind_all, only_at}
+use Rattle.law_sent.specs.Channels.{flow_on, IsOfData, StandsOn, by_event, by_record, behind_all, sent_on, only_at}
 use Rattle.law_sent.specs.Channels.{RecordsGoAlone, LinesGoAlone, BearersBegin, GroupsEndAlone}
-use Rattle.law_sent.proofs.ChannelsFlows.{each_at, like_data, submitted_not, discarded_not, taken_given}
-use Rattle.law_sent.proofs.ChannelsFlows.{given_like, reported_like, renewed_data, settled_like, stays, changed_stands}
-use Rattle.law_sent.proofs.ChannelsFlows.{changed_stays}
-use Rattle.law_sent.proofs.ChannelsNamed.{released_names}
-use Rattle.law_sent.proofs.ChannelsBlocks.{block_stands}
+use Rattle.law_sent.specs.Flows.{submits_to, event_on, record_on}
+use Rattle.law_sent.proofs.ChannelsFlows.{IsLike, like_data, like_itself, only_like, submitted_not, discarded_not}
+use Rattle.law_sent.proofs.ChannelsFlows.{taken_given, given_like, reported_like, behind_like, renewed_data}
+use Rattle.law_sent.proofs.ChannelsFlows.{settled_like}
+use Rattle.law_sent.proofs.Flows.{flows_go_on}
 
--- ---- an event
+-- ---- what records make of a flow of acknowledged data
 
-take_stands : (at side : Side) (l lcid : ℕ) (count : Option ℕ) (len : ℕ) (j : Given) (s : AllSent) (f : Flow)
-    → StandsOn side l s f
-    → StandsOn side l (take_told histories at lcid count len (sdu_of given.histories at lcid count j) s)
-    (only_at (is_same at side) (by_event side l (events.Take lcid count len) j) f)
-take_stands at side l lcid count len j s f h =
-    let before = changed at lcid (flow_taken histories count len (sdu_of given.histories at lcid count j)) s in
-    stays side l before (take_told histories at lcid count len (sdu_of given.histories at lcid count j) s)
-    (only_at (is_same at side) (by_event side l (events.Take lcid count len) j) f) refl refl
-    (changed_stands at side lcid l (flow_taken histories count len (sdu_of given.histories at lcid count j))
-    (gives_data histories count (sdu_of given.histories side l count j)) s f h same
-    (given_like count (sdu_of given.histories side l count j) f))
-  where
-    same : at ≡ side → lcid ≡ l
-        → flow_taken histories count len (sdu_of given.histories at lcid count j) f
-        ≡ gives_data histories count (sdu_of given.histories side l count j) f
-    same to on =
-        taken_given count len (sdu_of given.histories at lcid count j) f h.of_data
-        ∙ ap (λ (m : ℕ). gives_data histories count (sdu_of given.histories at m count j) f) on
-        ∙ ap (λ (x : Side). gives_data histories count (sdu_of given.histories x l count j) f) to
+only_alike : (b : Bool) (c d : Flow → Flow) (f : Flow) → c f ≡ d f → only_at b c f ≡ only_at b d f
+only_alike true c d f same = same
+only_alike false c d f same = refl
 
-only_same : (b : Bool) (f : Flow) → f ≡ only_at b (λ (g : Flow). g) f
-only_same true f = refl
-only_same false f = refl
+only_same : (b : Bool) (c : Flow → Flow) (f : Flow) → c f ≡ f → only_at b c f ≡ f
+only_same true c f same = same
+only_same false c f same = refl
 
--- as one that tells nothing of flows
-left_by : (b : Bool) (side : Side) (l : ℕ) (s : AllSent) (f : Flow) → StandsOn side l s f
-    → StandsOn side l s (only_at b (λ (g : Flow). g) f)
-left_by b side l s f = subst (StandsOn side l s) (only_same b f)
+-- SDUs wait elsewhere
+submits_not : (side : Side) (l : ℕ) (o : Option Submission) (f : Flow) → IsOfData f → submits_to side l o f ≡ f
+submits_not side l None f h = refl
+submits_not side l (Some d) f h =
+    only_same (is_same d.side side) (only_at (d.lcid == l) (flow_submitted d.octets)) f
+    (only_same (d.lcid == l) (flow_submitted d.octets) f (submitted_not d.octets f h))
 
-event_stands : (at side : Side) (l : ℕ) (event : Event) (j : Given) (p : Option PassedSdu) (s : AllSent) (f : Flow)
-    → StandsOn side l s f
-    → StandsOn side l (event_told histories given.histories at event j p s)
-    (only_at (is_same at side) (by_event side l event j) f)
-event_stands at side l (events.Take lcid count len) j p s f h = take_stands at side l lcid count len j s f h
-event_stands at side l (events.Report lcid fms bitmap) j p s f h =
-    stays side l (changed at lcid (flow_reported histories fms bitmap) s)
-    (event_told histories given.histories at (events.Report lcid fms bitmap) j p s)
-    (only_at (is_same at side) (by_event side l (events.Report lcid fms bitmap) j) f) refl refl
-    (changed_stands at side lcid l (flow_reported histories fms bitmap) (flow_reported histories fms bitmap) s f h
-    (λ _ _. refl) (reported_like fms bitmap f))
-event_stands at side l (events.Discard lcid len) j p s f h =
-    left_by (is_same at side) side l (event_told histories given.histories at (events.Discard lcid len) j p s) f
-    (stays side l (changed at lcid flow_discarded s)
-    (event_told histories given.histories at (events.Discard lcid len) j p s) f refl refl
-    (changed_stays at side lcid l flow_discarded s f h (discarded_not f h.of_data)))
-event_stands at side l (events.Send lcid how sn) j p s f h =
-    left_by (is_same at side) side l (names at lcid how p s) f (by at)
-  where
-    by : (x : Side) → StandsOn side l (names x lcid how p s) f
-    by Nb = stays side l s (names Nb lcid how p s) f refl refl h
-    by Ue = stays side l s (names Ue lcid how p s) f refl refl h
-event_stands at side l event j p s f h = left_by (is_same at side) side l s f h
+event_by : (side : Side) (l : ℕ) (event : Event) (j : Given) (f : Flow) → IsOfData f
+    → event_on side l event j f ≡ by_event side l event j f
+event_by side l (events.Take lcid count len) j f h =
+    let sdu = sdu_of given.histories side l count j in
+    only_alike (lcid == l) (flow_taken histories count len sdu) (gives_data histories count sdu) f
+    (taken_given count len sdu f h)
+event_by side l (events.Discard lcid len) j f h =
+    only_same (lcid == l) flow_discarded f (discarded_not f h)
+event_by side l event j f h = refl
 
--- ---- a record
+record_by : (side : Side) (l : ℕ) (one : Record) (j : Given) (s : AllSent) (f : Flow) → IsOfData f
+    → record_on side l one j s f ≡ by_record side l one j s f
+record_by side l (records.Of at event) j s f h =
+    only_alike (is_same at side) (event_on side l event j) (by_event side l event j) f (event_by side l event j f h)
+record_by side l (records.Block direction process true version octets) j s f h = refl
+record_by side l (records.Block direction process false version octets) j s f h = refl
+record_by side l (records.Looped lcid octets) j s f h =
+    only_same (is_same Ue side) (only_at (lcid == l) (flow_submitted octets)) f
+    (only_same (lcid == l) (flow_submitted octets) f (submitted_not octets f h))
+record_by side l one j s f h = refl
 
-judged_stands : (b : Bool) (side : Side) (l : ℕ) (s : AllSent) (f : Flow) → StandsOn side l s f
-    → StandsOn side l (judged b s) f
-judged_stands b side l s f h = stays side l s (judged b s) f refl refl h
+-- it stays one
+event_like : (side : Side) (l : ℕ) (event : Event) (j : Given) (f : Flow) → IsLike f (by_event side l event j f)
+event_like side l (events.Take lcid count len) j f =
+    let sdu = sdu_of given.histories side l count j in
+    only_like (lcid == l) (gives_data histories count sdu) f (given_like count sdu f)
+event_like side l (events.Report lcid fms bitmap) j f =
+    only_like (lcid == l) (flow_reported histories fms bitmap) f (reported_like fms bitmap f)
+event_like side l event j f = like_itself f
 
-tells_alone : (side : Side) (l : ℕ) (one : Record) (j : Given) (p : Option PassedSdu) (s : AllSent) (f : Flow)
-    → StandsOn side l s f
-    → StandsOn side l (tells histories given.histories one j p s) (by_record side l one j s f)
-tells_alone side l (records.Of at event) j p s f h =
-    event_stands at side l event j p (judged (is_known (lcid_in event) s) s) f
-    (judged_stands (is_known (lcid_in event) s) side l s f h)
-tells_alone side l (records.Block direction process true version octets) j p s f h =
-    block_stands side direction l octets j s f h
-tells_alone side l (records.Block direction process false version octets) j p s f h = h
-tells_alone side l (records.Looped lcid octets) j p s f h =
-    let known = has_bearer lcid s in
-    changed_stays Ue side lcid l (flow_submitted octets) (judged known s) f (judged_stands known side l s f h)
-    (submitted_not octets f h.of_data)
-tells_alone side l (records.Refused at lcid why) j p s f h = judged_stands (has_bearer lcid s) side l s f h
-tells_alone side l one j p s f h = h
+record_like : (side : Side) (l : ℕ) (one : Record) (j : Given) (s : AllSent) (f : Flow)
+    → IsLike f (by_record side l one j s f)
+record_like side l (records.Of at event) j s f =
+    only_like (is_same at side) (by_event side l event j) f (event_like side l event j f)
+record_like side l (records.Block direction process true version octets) j s f =
+    only_like (is_same (sender_of direction) side)
+    (behind_all (acked_at side l j) (sent_on l direction octets s)) f
+    (behind_like (acked_at side l j) (sent_on l direction octets s) f)
+record_like side l (records.Block direction process false version octets) j s f = like_itself f
+record_like side l one j s f = like_itself f
 
--- what is submitted waits elsewhere
-own_stands : (o : Option Submission) (side : Side) (l : ℕ) (s : AllSent) (f : Flow) → StandsOn side l s f
-    → StandsOn side l (submits_own o s) f
-own_stands None side l s f h = h
-own_stands (Some d) side l s f h =
-    changed_stays d.side side d.lcid l (flow_submitted d.octets) s f h (submitted_not d.octets f h.of_data)
+-- ---- the flow that stands there
 
-released_stands : (o : Option Submission) (side : Side) (l : ℕ) (s : AllSent) (f : Flow) → StandsOn side l s f
-    → StandsOn side l (released o s) f
-released_stands o side l s f h =
-    own_stands o side l (record s { submitted = None }) f
-    (stays side l s (record s { submitted = None }) f refl refl h)
-
-settled_stands : (one : Record) (side : Side) (l : ℕ) (s : AllSent) (f : Flow) → StandsOn side l s f
-    → StandsOn side l (settled one s) f
-settled_stands one side l s f h = released_stands (unrefused one s.submitted) side l s f h
-
--- the same PDUs are named
-same_behind : (side : Side) (l : ℕ) (one : Record) (j : Given) (s t : AllSent) (f : Flow)
-    → ((x : Side) → named_of x t ≡ named_of x s) → by_record side l one j t f ≡ by_record side l one j s f
-same_behind side l (records.Of at event) j s t f same = refl
-same_behind side l (records.Block direction process true version octets) j s t f same =
-    ap (λ (named : List _). only_at (is_same (sender_of direction) side)
-    (behind_all (acked_at side l j) (pdus_on l named (sdus_read (reading direction octets)))) f)
-    (same (sender_of direction))
-same_behind side l (records.Block direction process false version octets) j s t f same = refl
-same_behind side l one j s t f same = refl
+released_is : (side : Side) (l : ℕ) (o : Option Submission) (s : AllSent) (f : Flow) → StandsOn side l s f
+    → flow_on side l (released o s) ≡ Some f
+released_is side l o s f h =
+    (flows_go_on side l).releases o s ∙ ap (option_map (submits_to side l o)) h.is
+    ∙ ap (λ (g : Flow). Some g) (submits_not side l o f h.of_data)
 
 pub records_go_alone : RecordsGoAlone
-records_go_alone side l one j s f h =
-    let t = settled one s in
-    let u = record t { passed = None } in
-    subst (StandsOn side l (after_record histories given.histories one j s))
-    (same_behind side l one j s u f (names_left (unrefused one s.submitted)))
-    (tells_alone side l one j t.passed u f
-    (stays side l t u f refl refl (settled_stands one side l s f h)))
-  where
-    names_left : (o : Option Submission) (x : Side)
-        → named_of x (record (released o s) { passed = None }) ≡ named_of x s
-    names_left o Nb = released_names o Nb s
-    names_left o Ue = released_names o Ue s
-
--- ---- lines
+records_go_alone side l one j s f h = record {
+  is = (flows_go_on side l).records one j s
+      ∙ ap (option_map (record_on side l one j s)) (released_is side l (unrefused one s.submitted) s f h)
+      ∙ ap (λ (g : Flow). Some g) (record_by side l one j s f h.of_data);
+  of_data = like_data f (by_record side l one j s f) (record_like side l one j s f) h.of_data;
+}
 
 pub lines_go_alone : LinesGoAlone
-lines_go_alone Nb l (lines.Bearer config options) s f other h = record {
-  is = get_or-set_other s.nb config.channel.lcid l (bearer_begun histories Nb s.keys config) None
-      (λ same. eqb-false config.channel.lcid l other (sym same)) ∙ h.is;
+lines_go_alone side l line s f other h = record {
+  is = (flows_go_on side l).lines line s other ∙ h.is;
   of_data = h.of_data;
 }
-lines_go_alone Ue l (lines.Bearer config options) s f other h = record {
-  is = get_or-set_other s.ue config.channel.lcid l (bearer_begun histories Ue s.keys config) None
-      (λ same. eqb-false config.channel.lcid l other (sym same)) ∙ h.is;
-  of_data = h.of_data;
-}
-lines_go_alone side l (lines.Keys keys) s f other h =
-    stays side l s (after_line histories (lines.Keys keys) s) f refl refl h
-lines_go_alone side l (lines.Handover user rrc integrity) s f other h =
-    stays side l s (after_line histories (lines.Handover user rrc integrity) s) f refl refl h
-lines_go_alone side l line s f other h = stays side l s (after_line histories line s) f refl refl h
 
 pub bearers_begin : BearersBegin
 bearers_begin Nb config options s has low =
@@ -180,41 +113,14 @@ bearers_begin Ue config options s has low =
     get_or-set_same s.ue config.channel.lcid (bearer_begun histories Ue s.keys config) None
     (omega (arith, has.ue, low))
 
--- ---- a group ends
-
-closed_stands : (side : Side) (l : ℕ) (j : Given) (s : AllSent) (f : Flow) → StandsOn side l s f
-    → StandsOn side l (closed histories j s)
-    (flow_settled histories (account_at side l j.kept.journal.flows) (renewed_by histories s.renewal f))
-closed_stands side l j s f h = record {
-  is = by side h.is;
-  of_data = like_data (renewed_by histories s.renewal f)
-      (flow_settled histories (account_at side l j.kept.journal.flows) (renewed_by histories s.renewal f))
-      (settled_like (account_at side l j.kept.journal.flows) (renewed_by histories s.renewal f))
-      (renewed_data s.renewal f h.of_data);
-}
-  where
-    by : (x : Side) → flow_on x l s ≡ Some f
-        → flow_on x l (closed histories j s)
-        ≡ Some (flow_settled histories (account_at x l j.kept.journal.flows) (renewed_by histories s.renewal f))
-    by Nb is = each_at (flow_closed histories s.renewal Nb j) (λ _. refl) 0 l s.nb
-        ∙ ap (flow_closed histories s.renewal Nb j (0 + l)) is
-        ∙ ap (λ (k : ℕ). flow_closed histories s.renewal Nb j k (Some f)) (omega arith)
-    by Ue is = each_at (flow_closed histories s.renewal Ue j) (λ _. refl) 0 l s.ue
-        ∙ ap (flow_closed histories s.renewal Ue j (0 + l)) is
-        ∙ ap (λ (k : ℕ). flow_closed histories s.renewal Ue j k (Some f)) (omega arith)
-
-own_renews : (o : Option Submission) (s : AllSent) → (released o s).renewal ≡ s.renewal
-own_renews None s = refl
-own_renews (Some d) s = by d.side
-  where
-    by : (x : Side)
-        → (changed x d.lcid (flow_submitted d.octets) (record s { submitted = None })).renewal ≡ s.renewal
-    by Nb = refl
-    by Ue = refl
-
 pub groups_end_alone : GroupsEndAlone
 groups_end_alone side l j s f h =
-    subst (λ (renewal : Option _). StandsOn side l (after_group histories j s)
-    (flow_settled histories (account_at side l j.kept.journal.flows) (renewed_by histories renewal f)))
-    (own_renews s.submitted s)
-    (closed_stands side l j (released s.submitted s) f (released_stands s.submitted side l s f h))
+    let account = account_at side l j.kept.journal.flows in
+    let next = renewed_by histories s.renewal in
+    record {
+      is = (flows_go_on side l).ends j s
+          ∙ ap (option_map (λ (g : Flow). flow_settled histories account (next g)))
+          (released_is side l s.submitted s f h);
+      of_data = like_data (next f) (flow_settled histories account (next f)) (settled_like account (next f))
+          (renewed_data s.renewal f h.of_data);
+    }

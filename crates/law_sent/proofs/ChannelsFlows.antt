@@ -1,7 +1,7 @@
 -- What stands at a channel where a list of flows is changed at one, and that a flow stays one of acknowledged data.
 use Rattle.std.proofs.Common.{◌≡◌, ℕ, zero, suc, ◌+◌, ◌==◌, Bool, true, false, if◌then◌else◌, List, [], ◌∷◌, ◌++◌}
 use Rattle.std.proofs.Common.{Option, Some, None, Result, Ok, Err, option_map, slice_index_or, slice_set, drop, refl}
-use Rattle.std.proofs.Common.{ap, sym, ◌∙◌, subst, arith}
+use Rattle.std.proofs.Common.{ap, sym, ◌∙◌, arith}
 use Rattle.std.proofs.lemmas.Bool.{eqb-true, eqb-false}
 use Rattle.std.proofs.lemmas.List.{get_or-set_other}
 use Rattle.l2_types.specs.declared.event.How.{How}
@@ -24,7 +24,7 @@ use Rattle.journal_sent.specs.SentFlows.{judges_amd, judges_by, flow_judges, wai
 use Rattle.journal_sent.specs.SentFlows.{flow_settled, with_covered}
 use Rattle.journal_sent.specs.Sending.{Flows, flow_at, changed_on, changed, renewed_by}
 use Rattle.journal_sent.specs.RightSent.{Flow, AllSent, Sent}
-use Rattle.law_sent.specs.Channels.{flow_on, IsOfData, StandsOn, only_at}
+use Rattle.law_sent.specs.Channels.{flow_on, IsOfData, SentPdu, behind_one, behind_all, only_at}
 
 -- ---- a list that is changed at a place
 
@@ -35,11 +35,28 @@ set_same f [] at = refl
 set_same f (x ∷ xs) zero = refl
 set_same f (x ∷ xs) (suc at) = set_same f xs at
 
-only_not : (c : Flow → Flow) (o : Option Flow) → option_map (only_at false c) o ≡ o
+-- what may stand there is changed
+
+-- by changes that do the same
+pub map_alike : (c d : Flow → Flow) (o : Option Flow) → ((f : Flow) → c f ≡ d f)
+    → option_map c o ≡ option_map d o
+map_alike c d None same = refl
+map_alike c d (Some f) same = ap (λ (g : Flow). Some g) (same f)
+
+pub map_itself : (o : Option Flow) → option_map (λ (f : Flow). f) o ≡ o
+map_itself None = refl
+map_itself (Some f) = refl
+
+pub map_twice : (c d : Flow → Flow) (o : Option Flow)
+    → option_map c (option_map d o) ≡ option_map (λ (f : Flow). c (d f)) o
+map_twice c d None = refl
+map_twice c d (Some f) = refl
+
+pub only_not : (c : Flow → Flow) (o : Option Flow) → option_map (only_at false c) o ≡ o
 only_not c None = refl
 only_not c (Some f) = refl
 
-only_is : (c : Flow → Flow) (o : Option Flow) → option_map (only_at true c) o ≡ option_map c o
+pub only_is : (c : Flow → Flow) (o : Option Flow) → option_map (only_at true c) o ≡ option_map c o
 only_is c None = refl
 only_is c (Some f) = refl
 
@@ -55,21 +72,6 @@ changed_at m l c fs = by (m == l) refl
     by false e =
         get_or-set_other fs m l (option_map c (flow_at m fs)) None (λ same. eqb-false m l e (sym same))
         ∙ sym (only_not c (flow_at l fs))
-
--- on the channel itself, another change may do the same
-only_alike : (m l : ℕ) (c d : Flow → Flow) (f : Flow) → (m ≡ l → c f ≡ d f)
-    → only_at (m == l) c f ≡ only_at (m == l) d f
-only_alike m l c d f same = by (m == l) refl
-  where
-    by : (b : Bool) → (m == l) ≡ b → only_at b c f ≡ only_at b d f
-    by true e = same (eqb-true m l e)
-    by false e = refl
-
-changed_is : (m l : ℕ) (c d : Flow → Flow) (fs : Flows (List OctetEvent)) (f : Flow) → flow_at l fs ≡ Some f
-    → (m ≡ l → c f ≡ d f) → flow_at l (changed_on m c fs) ≡ Some (only_at (m == l) d f)
-changed_is m l c d fs f is same =
-    changed_at m l c fs ∙ ap (option_map (only_at (m == l) c)) is
-    ∙ ap (λ (g : Flow). Some g) (only_alike m l c d f same)
 
 -- each is changed
 pub each_at : {A : Type 0} (f : ℕ → Option A → Option A) → ((lcid : ℕ) → f lcid None ≡ None) → (n at : ℕ)
@@ -92,7 +94,7 @@ like_data f g h d = record {
   none_wait = h.waiting ∙ d.none_wait;
 }
 
-like_itself : (f : Flow) → IsLike f f
+pub like_itself : (f : Flow) → IsLike f f
 like_itself f = record { layout = refl; waiting = refl }
 
 pub only_like : (b : Bool) (c : Flow → Flow) (f : Flow) → IsLike f (c f) → IsLike f (only_at b c f)
@@ -169,6 +171,15 @@ judged_like acked how passed octets f = by f.layout
     by (layouts.Um rlc_bits kind) = umd_like rlc_bits how (umd_at rlc_bits octets) f
     by (layouts.Am kind) = amd_like acked how (am_at octets) f
 
+like_twice : (f g h : Flow) → IsLike f g → IsLike g h → IsLike f h
+like_twice f g h a b = record { layout = b.layout ∙ a.layout; waiting = b.waiting ∙ a.waiting }
+
+pub behind_like : (acked : ℕ → Bool) (ps : List SentPdu) (f : Flow) → IsLike f (behind_all acked ps f)
+behind_like acked [] f = like_itself f
+behind_like acked (p ∷ ps) f =
+    let g = behind_one acked p f in
+    like_twice f g (behind_all acked ps g) (judged_like acked p.how p.passed p.octets f) (behind_like acked ps g)
+
 -- a group ends
 
 none_behind : (layout : Layout) → waiting_behind layout [] ≡ []
@@ -194,40 +205,16 @@ settled_like account f = by f.layout account
 
 -- ---- what stands on a channel of a side
 
-pub stays : (side : Side) (l : ℕ) (s t : AllSent) (f : Flow) → t.nb ≡ s.nb → t.ue ≡ s.ue → StandsOn side l s f
-    → StandsOn side l t f
-stays Nb l s t f nb ue h = record { is = ap (flow_at l) nb ∙ h.is; of_data = h.of_data }
-stays Ue l s t f nb ue h = record { is = ap (flow_at l) ue ∙ h.is; of_data = h.of_data }
+pub same_flow : (side : Side) (l : ℕ) (s t : AllSent) → t.nb ≡ s.nb → t.ue ≡ s.ue
+    → flow_on side l t ≡ flow_on side l s
+same_flow Nb l s t nb ue = ap (flow_at l) nb
+same_flow Ue l s t nb ue = ap (flow_at l) ue
 
 -- a channel of a side is changed
-changed_on_side : (at side : Side) (m l : ℕ) (c d : Flow → Flow) (s : AllSent) (f : Flow) → flow_on side l s ≡ Some f
-    → (at ≡ side → m ≡ l → c f ≡ d f)
-    → flow_on side l (changed at m c s) ≡ Some (only_at (is_same at side) (only_at (m == l) d) f)
-changed_on_side Nb Nb m l c d s f is same = changed_is m l c d s.nb f is (same refl)
-changed_on_side Nb Ue m l c d s f is same = is
-changed_on_side Ue Nb m l c d s f is same = is
-changed_on_side Ue Ue m l c d s f is same = changed_is m l c d s.ue f is (same refl)
-
-pub changed_stands : (at side : Side) (m l : ℕ) (c d : Flow → Flow) (s : AllSent) (f : Flow) → StandsOn side l s f
-    → (at ≡ side → m ≡ l → c f ≡ d f) → IsLike f (d f)
-    → StandsOn side l (changed at m c s) (only_at (is_same at side) (only_at (m == l) d) f)
-changed_stands at side m l c d s f h same like = record {
-  is = changed_on_side at side m l c d s f h.is same;
-  of_data = like_data f (only_at (is_same at side) (only_at (m == l) d) f)
-      (only_like (is_same at side) (only_at (m == l) d) f (only_like (m == l) d f like)) h.of_data;
-}
-
-abbrev itself : Flow → Flow
-itself f = f
-
-only_itself : (b a : Bool) (f : Flow) → only_at b (only_at a itself) f ≡ f
-only_itself true true f = refl
-only_itself true false f = refl
-only_itself false a f = refl
-
--- which leaves this flow
-pub changed_stays : (at side : Side) (m l : ℕ) (c : Flow → Flow) (s : AllSent) (f : Flow) → StandsOn side l s f
-    → c f ≡ f → StandsOn side l (changed at m c s) f
-changed_stays at side m l c s f h same =
-    subst (StandsOn side l (changed at m c s)) (only_itself (is_same at side) (m == l) f)
-    (changed_stands at side m l c itself s f h (λ _ _. same) (like_itself f))
+pub changed_flow : (at side : Side) (m l : ℕ) (c : Flow → Flow) (s : AllSent)
+    → flow_on side l (changed at m c s)
+    ≡ option_map (only_at (is_same at side) (only_at (m == l) c)) (flow_on side l s)
+changed_flow Nb Nb m l c s = changed_at m l c s.nb ∙ sym (only_is (only_at (m == l) c) (flow_at l s.nb))
+changed_flow Nb Ue m l c s = sym (only_not (only_at (m == l) c) (flow_at l s.ue))
+changed_flow Ue Nb m l c s = sym (only_not (only_at (m == l) c) (flow_at l s.nb))
+changed_flow Ue Ue m l c s = changed_at m l c s.ue ∙ sym (only_is (only_at (m == l) c) (flow_at l s.ue))

@@ -98,23 +98,40 @@ released_names o Ue s = own_names o Ue (record s { submitted = None })
 pub settled_names : (one : Record) (side : Side) (s : AllSent) → named_of side (settled one s) ≡ named_of side s
 settled_names one side s = released_names (unrefused one s.submitted) side s
 
-one_more : (named : List NamedPdu) (n : NamedPdu)
-    → as_named (named ++ n ∷ []) ≡ as_named named ++ record { lcid = n.lcid; how = n.how } ∷ []
-one_more named n = map-append (λ (m : NamedPdu). record { lcid = m.lcid; how = m.how }) named (n ∷ [])
+-- what the record just before passed on
+passes_on : (one : Record) (s : AllSent) → (settled one s).passed ≡ s.passed
+passes_on one s = by (unrefused one s.submitted)
+  where
+    at_side : (x : Side) (fs : Flows _)
+        → (with_flows x fs (record s { submitted = None })).passed ≡ s.passed
+    at_side Nb fs = refl
+    at_side Ue fs = refl
 
-event_named : (at side : Side) (event : Event) (j : Given) (p : Option PassedSdu) (s : AllSent)
-    → as_named (named_of side (event_told histories given.histories at event j p s))
-    ≡ named_by side (records.Of at event) (as_named (named_of side s))
-event_named Nb Nb (events.Send lcid how sn) j p s =
-    one_more s.named_nb (record { lcid = lcid; how = how; sdu = passed_to Nb lcid p })
-event_named Nb Ue (events.Send lcid how sn) j p s = refl
-event_named Ue Nb (events.Send lcid how sn) j p s = refl
-event_named Ue Ue (events.Send lcid how sn) j p s =
-    one_more s.named_ue (record { lcid = lcid; how = how; sdu = passed_to Ue lcid p })
-event_named Nb Nb event j p s = refl
-event_named Nb Ue event j p s = refl
-event_named Ue Nb event j p s = refl
-event_named Ue Ue event j p s = refl
+    by : (o : Option Submission) → (released o s).passed ≡ s.passed
+    by None = refl
+    by (Some d) =
+        at_side d.side
+        (changed_on d.lcid (flow_submitted d.octets) (flows_of d.side (record s { submitted = None })))
+
+-- what a record leaves named on a side, where the one just before passed on `p`
+abbrev pub names_by : Side → Record → Option PassedSdu → List NamedPdu → List NamedPdu
+names_by side (records.Of at (events.Send lcid how sn)) p named =
+    if is_same at side then named ++ record { lcid = lcid; how = how; sdu = passed_to at lcid p } ∷ [] else named
+names_by side (records.Block direction process true version octets) p named =
+    if is_same (sender_of direction) side then [] else named
+names_by side one p named = named
+
+event_names : (at side : Side) (event : Event) (j : Given) (p : Option PassedSdu) (s : AllSent)
+    → named_of side (event_told histories given.histories at event j p s)
+    ≡ names_by side (records.Of at event) p (named_of side s)
+event_names Nb Nb (events.Send lcid how sn) j p s = refl
+event_names Nb Ue (events.Send lcid how sn) j p s = refl
+event_names Ue Nb (events.Send lcid how sn) j p s = refl
+event_names Ue Ue (events.Send lcid how sn) j p s = refl
+event_names Nb Nb event j p s = refl
+event_names Nb Ue event j p s = refl
+event_names Ue Nb event j p s = refl
+event_names Ue Ue event j p s = refl
 
 -- the PDUs of a block
 pdu_names : (at side : Side) (acked : ℕ → Bool) (n : NamedPdu) (d : Sdu) (o : Option Flow) (s : AllSent)
@@ -134,45 +151,65 @@ pdus_name at side j (n ∷ named) (d ∷ sdus) s =
     ∙ pdu_names at side (acked_at at d.lcid j) n d (flow_at d.lcid (flows_of at s)) s
 
 unnamed : (at side : Side) (s : AllSent)
-    → as_named (named_of side (with_named at [] s)) ≡ (if is_same at side then [] else as_named (named_of side s))
+    → named_of side (with_named at [] s) ≡ (if is_same at side then [] else named_of side s)
 unnamed Nb Nb s = refl
 unnamed Nb Ue s = refl
 unnamed Ue Nb s = refl
 unnamed Ue Ue s = refl
 
-tells_named : (side : Side) (one : Record) (j : Given) (p : Option PassedSdu) (s : AllSent)
-    → as_named (named_of side (tells histories given.histories one j p s))
-    ≡ named_by side one (as_named (named_of side s))
-tells_named Nb (records.Of at event) j p s = event_named at Nb event j p (judged (is_known (lcid_in event) s) s)
-tells_named Ue (records.Of at event) j p s = event_named at Ue event j p (judged (is_known (lcid_in event) s) s)
-tells_named side (records.Block direction process true version octets) j p s =
+tells_names : (side : Side) (one : Record) (j : Given) (p : Option PassedSdu) (s : AllSent)
+    → named_of side (tells histories given.histories one j p s) ≡ names_by side one p (named_of side s)
+tells_names Nb (records.Of at event) j p s = event_names at Nb event j p (judged (is_known (lcid_in event) s) s)
+tells_names Ue (records.Of at event) j p s = event_names at Ue event j p (judged (is_known (lcid_in event) s) s)
+tells_names side (records.Block direction process true version octets) j p s =
     let from = sender_of direction in
-    ap as_named
-    (pdus_name from side j (named_of from s) (sdus_read (reading direction octets)) (with_named from [] s))
+    pdus_name from side j (named_of from s) (sdus_read (reading direction octets)) (with_named from [] s)
     ∙ unnamed from side s
-tells_named side (records.Block direction process false version octets) j p s = refl
-tells_named Nb (records.Looped lcid octets) j p s = refl
-tells_named Ue (records.Looped lcid octets) j p s = refl
-tells_named Nb (records.Refused at lcid why) j p s = refl
-tells_named Ue (records.Refused at lcid why) j p s = refl
-tells_named side one j p s = refl
+tells_names side (records.Block direction process false version octets) j p s = refl
+tells_names Nb (records.Looped lcid octets) j p s = refl
+tells_names Ue (records.Looped lcid octets) j p s = refl
+tells_names Nb (records.Refused at lcid why) j p s = refl
+tells_names Ue (records.Refused at lcid why) j p s = refl
+tells_names side one j p s = refl
 
-record_named : (side : Side) (one : Record) (j : Given) (s : AllSent)
-    → as_named (named_of side (after_record histories given.histories one j s))
-    ≡ named_by side one (as_named (named_of side s))
-record_named side one j s =
-    tells_named side one j (settled one s).passed (record (settled one s) { passed = None })
-    ∙ ap (λ (named : List NamedPdu). named_by side one (as_named named)) (by side)
+pub record_names : (side : Side) (one : Record) (j : Given) (s : AllSent)
+    → named_of side (after_record histories given.histories one j s)
+    ≡ names_by side one s.passed (named_of side s)
+record_names side one j s =
+    tells_names side one j (settled one s).passed (record (settled one s) { passed = None })
+    ∙ ap (names_by side one (settled one s).passed) (by side)
+    ∙ ap (λ (p : Option PassedSdu). names_by side one p (named_of side s)) (passes_on one s)
   where
     by : (x : Side) → named_of x (record (settled one s) { passed = None }) ≡ named_of x s
-    by Nb = released_names (unrefused one s.submitted) Nb s
-    by Ue = released_names (unrefused one s.submitted) Ue s
+    by Nb = settled_names one Nb s
+    by Ue = settled_names one Ue s
 
 -- ---- both
+
+as_names : (side : Side) (one : Record) (p : Option PassedSdu) (named : List NamedPdu)
+    → as_named (names_by side one p named) ≡ named_by side one (as_named named)
+as_names side (records.Of at (events.Send lcid how sn)) p named = by (is_same at side)
+  where
+    n : NamedPdu
+    n = record { lcid = lcid; how = how; sdu = passed_to at lcid p }
+
+    by : (b : Bool)
+        → as_named (if b then named ++ n ∷ [] else named)
+        ≡ (if b then as_named named ++ record { lcid = lcid; how = how } ∷ [] else as_named named)
+    by true = map-append (λ (m : NamedPdu). record { lcid = m.lcid; how = m.how }) named (n ∷ [])
+    by false = refl
+as_names side (records.Block direction process true version octets) p named = by (is_same (sender_of direction) side)
+  where
+    by : (b : Bool) → as_named (if b then [] else named) ≡ (if b then [] else as_named named)
+    by true = refl
+    by false = refl
+as_names side (records.Block direction process false version octets) p named = refl
+as_names side (records.Of at event) p named = refl
+as_names side one p named = refl
 
 pub named_alike_records : (g : Gatherer Histories) (kinds : List (Option Layout)) (more : Bool) (one : Record)
     (given' : Given) (j : Journal Histories) (s : AllSent) → AreNamedAlike j s
     → AreNamedAlike (behind_record g kinds more one j) (after_record histories given.histories one given' s)
 named_alike_records g kinds more one given' j s h side =
     record_gathered g kinds more side one j ∙ ap (named_by side one) (h side)
-    ∙ sym (record_named side one given' s)
+    ∙ sym (ap as_named (record_names side one given' s) ∙ as_names side one s.passed (named_of side s))

@@ -1,8 +1,13 @@
 pub mod SenderMarks
 pub mod SenderStreams
 pub mod Senders
+pub mod UmMarks
+pub mod UmSenders
 pub mod ChannelsFlows
 pub mod ChannelsNamed
+pub mod FlowsBlocks
+pub mod Flows
+pub mod FlowsNamed
 pub mod ChannelsBlocks
 pub mod ChannelsStay
 pub mod Channels

@@ -26,7 +26,7 @@ sdu_octets begins (x ∷ []) = refl
 sdu_octets begins (x ∷ y ∷ ys) = ap (λ (zs : List ℕ). x ∷ zs) (sdu_octets false (y ∷ ys))
 
 -- the marks behind the first of so many octets
-later_marks : (ends : Bool) (n : ℕ) → part_marks false ends (suc n) ≡ replicate n 0 ++ mark false ends ∷ []
+pub later_marks : (ends : Bool) (n : ℕ) → part_marks false ends (suc n) ≡ replicate n 0 ++ mark false ends ∷ []
 later_marks ends zero = refl
 later_marks ends (suc n) = refl
 

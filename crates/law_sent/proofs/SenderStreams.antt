@@ -15,11 +15,11 @@ use Rattle.law_rlc.specs.AmSender.Run.{Offer}
 use Rattle.law_rlc.specs.AmSender.Octets.{Place, Octets, places, sent_with, octets_after}
 use Rattle.law_sent.specs.Senders.{IsStreamOf}
 
-concat_end : (xs : List (List ℕ)) (x : List ℕ) → concat (xs ++ x ∷ []) ≡ concat xs ++ x
+pub concat_end : (xs : List (List ℕ)) (x : List ℕ) → concat (xs ++ x ∷ []) ≡ concat xs ++ x
 concat_end xs x = concat-append xs (x ∷ []) ∙ ap (λ (ys : List ℕ). concat xs ++ ys) (append-nil x)
 
 -- what is written is the fields
-written_is : (es : List OctetEvent) → written es ≡ concat (fields es)
+pub written_is : (es : List OctetEvent) → written es ≡ concat (fields es)
 written_is [] = refl
 written_is (PduTaken pdu ∷ es) = written_is es
 written_is (FieldWritten field ∷ es) =

@@ -1,5 +1,6 @@
--- What is kept of a channel of any kind, while the PDUs that a journal sends are checked, goes on by
--- its own records alone (docs/formats/JOURNAL.md; TS 36.321 6.1.2, TS 36.322 5.1, TS 36.323 5.1.1).
+-- What is kept of a channel of any kind, while the PDUs that a journal sends are checked, goes on
+-- by its own records alone (docs/formats/JOURNAL.md; TS 36.321 6.1.2, TS 36.322 5.1,
+-- TS 36.323 5.1.1).
 use Rattle.std.specs.Prelude.{◌≡◌, ℕ, ◌==◌, true, false, List, ◌∷◌, ◌++◌, [], Option, Some}
 use Rattle.std.specs.Prelude.{None, option_map}
 use Rattle.l2_types.specs.declared.event.How.TheVariants as hows

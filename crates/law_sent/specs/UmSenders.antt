@@ -1,8 +1,8 @@
 -- What an unacknowledged sender writes is right as a checker of journals asks it of the PDUs of new
 -- blocks: each carries the octets that come next, and its SN, framing info and LIs say where SDUs
 -- begin and end (docs/formats/JOURNAL.md; TS 36.322 5.1.2.1.1, 6.2.1.3, 6.2.2.3 to 6.2.2.6).
-use Rattle.std.specs.Prelude.{◌≡◌, ℕ, ◌<◌, ◌≤◌, Bool, true, not, List, [], ◌∷◌, ◌++◌, length}
-use Rattle.std.specs.Prelude.{map, Option}
+use Rattle.std.specs.Prelude.{◌≡◌, ℕ, ◌<◌, ◌≤◌, Bool, true, false, not, List, [], ◌∷◌, ◌++◌}
+use Rattle.std.specs.Prelude.{length, map, Option}
 use Rattle.std.specs.List.{concat}
 use Rattle.l2_types.specs.declared.event.How.TheVariants as hows
 use Rattle.pdcp_pdu.specs.declared.pdu.PdcpKind.{PdcpKind}
@@ -35,6 +35,8 @@ pub record AreUmStreamsOf (s : Sender) (x : Sent) : Type 0 where
   pub octets : IsUmStreamOf s.next (concat s.waiting.sdus) x.octets
   pub marks : IsUmStreamOf s.next (unsent_marks s.waiting.begun s.waiting.sdus) x.marks
   pub some : HaveOctets s.waiting.sdus
+  -- where none waits, none is partly sent
+  pub idle : length s.waiting.sdus ≡ 0 → s.waiting.begun ≡ false
 
 -- ---- the laws
 

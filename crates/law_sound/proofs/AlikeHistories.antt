@@ -80,6 +80,9 @@ alike_sizes es fs a = alike_by (List ℕ) field_sizes sizes_same es fs a
 alike_complete : (es fs : List FlowEvent) → AreAlike es fs → is_complete_in es ≡ is_complete_in fs
 alike_complete es fs a = alike_by (ℕ → Bool) is_complete_in complete_same es fs a
 
+pub alike_acked : (es fs : List FlowEvent) → AreAlike es fs → is_acked es ≡ is_acked fs
+alike_acked es fs a = alike_by (ℕ → Bool) is_acked acked_same es fs a
+
 alike_said : (es fs : List FlowEvent) → AreAlike es fs → (n : ℕ) (sizes : List ℕ) (entries : List StatusEntry)
     → AreSaid es n sizes entries → AreSaid fs n sizes entries
 alike_said es fs a n [] entries h = h

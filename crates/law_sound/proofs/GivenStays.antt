@@ -72,7 +72,7 @@ unsubmitted_line : (line : Line) → is_submission line ≡ false → submitted_
 unsubmitted_line (lines.Submit side lcid octets) h = absurd cc
 unsubmitted_line line h = refl
 
-kept_by_line : (l : ℕ) (line : Line) (b : Option (Bearer History)) → adds_one l line ≡ false
+pub kept_by_line : (l : ℕ) (line : Line) (b : Option (Bearer History)) → adds_one l line ≡ false
     → bearer_by_line histories l line b ≡ b
 kept_by_line l (lines.Bearer config options) b other =
     ap (λ (here : Bool). if here

@@ -298,7 +298,7 @@ moves may_take c l past g user rrc integrity right order h =
 
 -- ---- behind all groups
 
-is_read : (may_take : MayTake) (l : ℕ) (past : List Group) (c : BearerConfig) → KeepsOrder past
+pub is_read : (may_take : MayTake) (l : ℕ) (past : List Group) (c : BearerConfig) → KeepsOrder past
     → IsAcknowledged c.kind → config_of l past ≡ Some c → is_forged past ≡ false → IsReadBehind may_take c l past
 is_read may_take =
     walk_all (λ l c past. is_forged past ≡ false → IsReadBehind may_take c l past) (λ c. IsAcknowledged c.kind)

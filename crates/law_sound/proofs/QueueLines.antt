@@ -55,6 +55,8 @@ use Rattle.law_sent.specs.Channels.{flow_on, only_at}
 use Rattle.law_sent.specs.Flows.{submits_to}
 use Rattle.law_sent.proofs.Channels.{bearers_begin}
 use Rattle.law_sent.proofs.ChannelsNamed.{as_named}
+use Rattle.law_sent.proofs.Flows.{flows_go_on}
+use Rattle.law_sent.proofs.FlowsNamed.{record_unsubmitted}
 use Rattle.law_sound.specs.LivedFails.{HaveComeNew}
 use Rattle.law_sound.proofs.GivenBeside.{of_both}
 use Rattle.law_sound.proofs.GivenStepFacts.{step_bearer}
@@ -65,7 +67,6 @@ use Rattle.law_sound.proofs.QueueAt.{AreRightRecords, IsAirBehind, IsBase, IsQue
 use Rattle.law_sound.proofs.QueueBases.{AreBasesLow}
 use Rattle.law_sound.proofs.QueueBearers.{IsOfQueue, flow_first, queue_begins, queue_keeps, queue_settles}
 use Rattle.law_sound.proofs.QueueBeside.{IsQueuedBy}
-use Rattle.law_sound.proofs.QueueLaws.{first_of_line, flows_go_on, record_unsubmitted}
 use Rattle.law_sound.proofs.QueueNamed.{none_named_first}
 use Rattle.law_sound.proofs.QueueRecords.{first_unsubmitted}
 use Rattle.law_sound.proofs.QueueWalk.{LineQueues, line_queues}
@@ -350,7 +351,7 @@ module _ (g : Group) (past : List Group) (c : BearerConfig) (options : List ℕ)
         subst (λ (x : BearerFlow). IsQueuedBy x (flow_first c side first_keys))
         (sym (ends_begin past g c options right order side).bearer_is)
         (queue_begins c first_keys side kind right.in_range
-        (first_zero c.kind c.first kind (first_of_line past begun right)))
+        (first_zero c.kind c.first kind right.first))
 
     pub begins_queued : QueuesBehind c.channel.lcid (begun ∷ past)
     begins_queued = record {

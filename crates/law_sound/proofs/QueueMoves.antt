@@ -62,6 +62,7 @@ use Rattle.law_run.proofs.TwoEnds.Advancing.{handovers_move}
 use Rattle.law_run.proofs.TwoEnds.Coming.{same_on}
 use Rattle.law_run.proofs.Unlooped.{none_looped}
 use Rattle.law_sent.specs.Channels.{flow_on}
+use Rattle.law_sent.proofs.Flows.{flows_go_on}
 use Rattle.law_sound.specs.LivedFails.{HaveComeNew}
 use Rattle.law_sound.proofs.GivenCalls.{submits_over}
 use Rattle.law_sound.proofs.GivenLater.{gone_log_events, gone_told}
@@ -77,7 +78,6 @@ use Rattle.law_sound.proofs.QueueAt.{IsAirBehind, IsQueuedOn, QueuesBehind, Queu
 use Rattle.law_sound.proofs.QueueBases.{AreBasesLow}
 use Rattle.law_sound.proofs.QueueBearers.{IsOfQueue, queue_keeps, queue_restarts, queue_settles}
 use Rattle.law_sound.proofs.QueueBeside.{AreRightHere, IsQueuedBy, IsRightHere, queue_by, queue_over, queue_submits}
-use Rattle.law_sound.proofs.QueueLaws.{flows_go_on}
 use Rattle.law_sound.proofs.QueueLines.{none_released}
 use Rattle.law_sound.proofs.QueueRecords.{AreRightOver, all_right, first_unsubmitted, flow_goes, not_data, queue_record}
 use Rattle.law_sound.proofs.QueueRecords.{queue_records, submits_both, submitted_layout}

@@ -4,7 +4,6 @@ use Rattle.std.proofs.Common.{◌≡◌, ℕ, ◌==◌, Bool, true, false, not, 
 use Rattle.std.proofs.Common.{Option, Some, None, option_map, append-nil, append_assoc, refl, ap, sym, subst, ◌∙◌}
 use Rattle.std.specs.List.{AllByRecursion}
 use Rattle.std.proofs.lemmas.Bool.{eq-eqb}
-use Rattle.std.proofs.lemmas.List.Elements.{filter-append}
 use Rattle.air_record.specs.declared.record.Record.{Record}
 use Rattle.air_record.specs.declared.record.Record.TheVariants as records
 use Rattle.air_record.specs.declared.submission.Submission.{Submission}
@@ -12,11 +11,11 @@ use Rattle.air_record.specs.Submissions.{submitted_by, unrefused}
 use Rattle.air_text.specs.Groups.{Group}
 use Rattle.bearer.specs.declared.flow.Flow.{Flow as BearerFlow}
 use Rattle.bearer.specs.declared.flow.Flow.TheVariants.{Tm, Um, Am}
+use Rattle.bearer_types.specs.Sides.{other, sent_by}
 use Rattle.bearer_types.specs.declared.event.Event.{Event}
 use Rattle.bearer_types.specs.declared.event.Event.TheVariants as events
 use Rattle.l2_types.specs.declared.side.Side.{Side}
 use Rattle.l2_types.specs.declared.side.Side.TheVariants.{Nb, Ue}
-use Rattle.pdcp_pdu.specs.declared.pdu.PdcpKind.{PdcpKind}
 use Rattle.pdcp_pdu.specs.declared.pdu.PdcpKind.TheVariants as pdcp
 use Rattle.pdu_show.specs.declared.kinds.Layout.{Layout}
 use Rattle.pdu_show.specs.declared.kinds.Layout.TheVariants as layouts
@@ -26,18 +25,21 @@ use Rattle.promises.specs.Records.{event_of, events_of, sdu_of as sdu_told}
 use Rattle.journal_given.specs.Giving.{all_given, settled, after_line as line_given, after_record as after_given}
 use Rattle.journal_given.specs.Supplies as given
 use Rattle.journal_sent.specs.RightSent.{AllSent, Flow, Given}
-use Rattle.journal_sent.specs.Sending.{after_line, after_record, all_sending, records_told, sdu_of}
+use Rattle.journal_sent.specs.Sending.{acked_at, after_line, after_record, all_sending, records_told, sdu_of}
 use Rattle.journal_sent.specs.SentFlows.{flow_taken, flow_submitted, flow_discarded, flow_reported, gives_data}
 use Rattle.journal_sent.specs.SentFlows.{gives_first, is_data, is_first, is_written, reported_as}
 use Rattle.journal_sent.specs.SentPdus.{histories}
 use Rattle.law_run.proofs.EmptyLists.{parts_empty}
 use Rattle.law_run.proofs.Flowing.{looped_then}
-use Rattle.law_sent.specs.Channels.{flow_on, only_at}
+use Rattle.law_sent.specs.Channels.{AreRight, behind_all, flow_on, only_at, sent_on}
 use Rattle.law_sent.specs.Flows.{event_on, record_on, submits_to}
+use Rattle.law_sent.proofs.Flows.{flows_go_on}
+use Rattle.law_sent.proofs.FlowsNamed.{record_unsubmitted, unsubmitted}
 use Rattle.law_sound.specs.NamedSteps.{SendsNoNewBlock}
+use Rattle.law_sound.proofs.BuiltRecords.{block_of}
 use Rattle.law_sound.proofs.QueueAt.{AreRightRecords, IsRightOnChannel, IsRightRecord}
 use Rattle.law_sound.proofs.QueueBeside.{AreRightHere, IsQueuedBy, queue_by, queue_over, queue_submits}
-use Rattle.law_sound.proofs.QueueLaws.{flows_go_on, record_unsubmitted, unsubmitted}
+use Rattle.law_sound.proofs.SentBetween.{IsRightPdu}
 use Rattle.law_sound.proofs.SentRecords.{giving_before, sending_first, sending_next, told_both}
 
 -- ---- a flow that isn't of acknowledged data stays so
@@ -284,6 +286,36 @@ module _ (l : ℕ) (now : Group) (past : List Group) (none : submitted_by now.li
       (flow_next side told one f stands
       ∙ ap (λ (g : Flow). Some g) (record_over side l one j s f unsent.0 plain))
 
+  -- those that tell nothing of the side on the channel, nor that it is submitted an SDU
+  pub flow_stays : (side : Side) (xs told : List Record) (f : Flow) → AllByRecursion SendsNoNewBlock xs
+      → is_data f.layout ≡ false → told_on l (events_of side xs) ≡ [] → looped_at side l xs ≡ []
+      → flow_on side l (sending_first now past told) ≡ Some f
+      → flow_on side l (sending_first now past (told ++ xs)) ≡ Some f
+  flow_stays side xs told f unsent plain quiet unlooped stands =
+      flow_goes side xs told f unsent plain stands
+      ∙ ap (λ (g : Flow). Some g)
+      ((go_by_events side l xs f unlooped).flow_is ∙ ap (λ (es : List Event). queue_over es f) quiet)
+
+  -- a new block of a side leaves what the other one sends
+  pub flow_builds : (side : Side) (told : List Record) (process version : ℕ) (octets : List ℕ) (f : Flow)
+      → (let one = block_of side process version octets in
+      let s = sending_first now past told in
+      flow_on side l s ≡ Some f
+      → flow_on side l (sending_first now past (told ++ one ∷ []))
+      ≡ Some (behind_all (acked_at side l (giving_before now past told one)) (sent_on l (sent_by side) octets s) f))
+  flow_builds Nb told process version octets f stands =
+      flow_next Nb told (block_of Nb process version octets) f stands
+  flow_builds Ue told process version octets f stands =
+      flow_next Ue told (block_of Ue process version octets) f stands
+
+  pub far_builds : (side : Side) (told : List Record) (process version : ℕ) (octets : List ℕ) (f : Flow)
+      → flow_on (other side) l (sending_first now past told) ≡ Some f
+      → flow_on (other side) l (sending_first now past (told ++ block_of side process version octets ∷ [])) ≡ Some f
+  far_builds Nb told process version octets f stands =
+      flow_next Ue told (block_of Nb process version octets) f stands
+  far_builds Ue told process version octets f stands =
+      flow_next Nb told (block_of Ue process version octets) f stands
+
   -- ---- and each is right on the channel
 
   on_channel : (side : Side) (event : Event) (f : Flow)
@@ -340,3 +372,21 @@ module _ (l : ℕ) (now : Group) (past : List Group) (none : submitted_by now.li
     right_then xs ys (told ++ one ∷ []) first.1
         (subst (λ (zs : List Record). AreRightRecords l now past zs ys) (sym (append_assoc told (one ∷ []) xs)) rest),
   )
+
+  -- of a new block
+  pub block_right : (side : Side) (told : List Record) (process version : ℕ) (octets : List ℕ) (f : Flow)
+      → flow_on side l (sending_first now past told) ≡ Some f
+      → AreRight IsRightPdu
+      (acked_at side l (giving_before now past told (block_of side process version octets)))
+      (sent_on l (sent_by side) octets (sending_first now past told)) f
+      → IsRightRecord l now past told (block_of side process version octets)
+  block_right Nb told process version octets f stands right = λ g is.
+      let same : Some f ≡ Some g = sym stands ∙ is in
+      let g_is : f ≡ g = cc in
+      subst (AreRight IsRightPdu (acked_at Nb l (giving_before now past told (block_of Nb process version octets)))
+      (sent_on l (sent_by Nb) octets (sending_first now past told))) g_is right
+  block_right Ue told process version octets f stands right = λ g is.
+      let same : Some f ≡ Some g = sym stands ∙ is in
+      let g_is : f ≡ g = cc in
+      subst (AreRight IsRightPdu (acked_at Ue l (giving_before now past told (block_of Ue process version octets)))
+      (sent_on l (sent_by Ue) octets (sending_first now past told))) g_is right

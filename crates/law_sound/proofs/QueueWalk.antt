@@ -30,7 +30,6 @@ use Rattle.law_run.proofs.TwoEnds.Advancing.{steps_stay}
 use Rattle.law_run.proofs.TwoEnds.Coming.{same_on}
 use Rattle.law_sound.proofs.GroupCarrying.{is_submission, hands_none, drained_silent, drained_loops}
 use Rattle.law_sound.proofs.QueueAt.{AreRightRecords, IsBase, IsQueuedAt, TellsStep}
-use Rattle.law_sound.proofs.QueueLaws.{tells_along}
 use Rattle.law_sound.proofs.QueueRecords.{right_then}
 use Rattle.law_sound.proofs.QueueSteps.{queue_step, queue_silent}
 use Rattle.law_sound.proofs.StepCarrying.{AsLooped, WithLooped, HandsOne, loops_with, looped_before, none_given}
@@ -73,7 +72,7 @@ module _ (l : ℕ) (low : l ≤ 10) (newer : List Group) (now : Group) (past : L
         given = living.0;
         logs = along.logs;
         looped = along.looped;
-        tells = tells_along sent (InLife s) a _ more along;
+        tells = along.tells;
       } in
       let x = queue_step l low newer now past none told first a s sent tells
       (base.knows sent told (first ++ (later ++ others)) a stood) h in

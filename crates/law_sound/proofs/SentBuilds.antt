@@ -1,10 +1,9 @@
 -- A step of a life in which a new block is built: the PDUs of a channel in it are right by what is kept of the flow of
 -- its side, which goes on by them beside the bearer that writes them.
 use Rattle.std.proofs.Common.{◌≡◌, ◌≤◌, ℕ, ◌%◌, Bool, true, false, if◌then◌else◌, Option, Some, None, List, [], ◌∷◌}
-use Rattle.std.proofs.Common.{◌++◌, map, append-nil, append_assoc, refl, ap, sym, subst, ◌∙◌}
+use Rattle.std.proofs.Common.{◌++◌, map, append-nil, refl, ap, sym, subst, ◌∙◌}
 use Rattle.std.specs.List.{AllByRecursion}
 use Rattle.air_record.specs.declared.record.Record.{Record}
-use Rattle.air_record.specs.declared.record.Record.TheVariants as records
 use Rattle.air_record.specs.Submissions.{submitted_by}
 use Rattle.air_text.specs.Groups.{Group}
 use Rattle.bearer.specs.Acknowledged.State.{State}
@@ -57,7 +56,7 @@ use Rattle.law_node.specs.Telling.{told_of}
 use Rattle.law_node.proofs.Keeping.{share_most}
 use Rattle.law_node.proofs.Sound.{visited_sound}
 use Rattle.law_rlc.specs.AmPair.Flow.{sender}
-use Rattle.law_run.specs.TwoEnds.Logs.{Flight, all_tell, flight_in, log_at, logged}
+use Rattle.law_run.specs.TwoEnds.Logs.{Flight, all_tell, log_at, logged}
 use Rattle.law_run.specs.TwoEnds.Logs.{Builds as EndBuilds}
 use Rattle.law_run.proofs.EmptyLists.{parts_empty}
 use Rattle.law_run.proofs.Flowing.{looped_then}
@@ -70,12 +69,10 @@ use Rattle.law_run.specs.TwoEnds.Along.{at_side}
 use Rattle.law_sound.specs.LivedHistories.{Moment}
 use Rattle.law_sound.specs.LoadLaws.{name_of}
 use Rattle.law_sound.specs.NamedSteps.{SendsNoNewBlock}
+use Rattle.law_sound.proofs.BuiltRecords.{BuiltAmong, block_of, built_among, step_log}
 use Rattle.law_sound.proofs.GivenBeside.{AreGivenOf, of_both}
 use Rattle.law_sound.proofs.GivenMoments.{FollowsSome, bearer, history, way}
 use Rattle.law_sound.proofs.GivenWays.{was_at}
-use Rattle.law_sound.proofs.LogEntries.{BlockIn, block_in}
-use Rattle.law_sound.proofs.LoggedEvents.{events_in, events_then, far_told, none_comes_in, own_told, records_events}
-use Rattle.law_sound.proofs.LoggedEvents.{none_sent_anew, tells_hear_none, tells_unbuilt}
 use Rattle.law_sound.proofs.NamedForm.{new_block_formed}
 use Rattle.law_given.proofs.SupplyPdusKept.{WereSubmitted}
 use Rattle.law_sound.proofs.SentBeside.{IsSentBy, flow_over}
@@ -88,30 +85,25 @@ use Rattle.law_sound.proofs.SentRecords.{block_far, block_next, gathers_sent, gi
 use Rattle.law_sound.proofs.SentQuiet.{GoesBy, all_keep_sent, bits_at, call_gives, data_at, kind_is, none_looped}
 use Rattle.law_sound.proofs.SentQuiet.{none_told, one_goes, one_told, spelled_at, supplied_at}
 use Rattle.law_sound.proofs.SentSteps.{act_calls}
-use Rattle.law_sound.proofs.StepLogs.{log_at_side}
-use Rattle.law_sound.proofs.StepRecords.{building_log}
 
 -- ---- what is read in a new block is what its end tells of
 
-reads_so : (side : Side) (e : End) → HasCome side e → (t : Turn) → IsGivenCall (Visits t)
+pub reads_so : (side : Side) (e : End) → HasCome side e → (t : Turn) → IsGivenCall (Visits t)
     → visit t.tti t.order e ≡ New
     → ReadsAs (sent_by side) (new_block (visited t.tti t.order e) t.grant) (sent_pdus (told_of e (Visits t)))
 reads_so side e come t given new =
     let f = new_block_formed side e t come given new in
     record { modes = modes_of (visited t.tti t.order e); items = f.items; read = f.read; named = f.named }
 
-visited_flow : (l tti : ℕ) (order : Order) (e : End) → flow l (visited tti order e) ≡ flow l e
+pub visited_flow : (l tti : ℕ) (order : Order) (e : End) → flow l (visited tti order e) ≡ flow l e
 unfolding visited
 visited_flow l tti order e = refl
 
 -- ---- the block of a side
 
-from_side : (side : Side) → sender_of (sent_by side) ≡ side
+pub from_side : (side : Side) → sender_of (sent_by side) ≡ side
 from_side Nb = refl
 from_side Ue = refl
-
-abbrev block_of : Side → ℕ → ℕ → List ℕ → Record
-block_of side process version octets = records.Block (sent_by side) process true version octets
 
 own_block : (l : ℕ) (now : Group) (past : List Group) (told : List Record) (side : Side) (process version : ℕ)
     (octets : List ℕ) (f : Flow) → StandsOn side l (sending_first now past told) f
@@ -147,7 +139,7 @@ is_sent l now past told Ue process version octets h = h
 same_flow : (side : Side) (l : ℕ) (s : AllSent) (f x : Flow) → StandsOn side l s f → flow_on side l s ≡ Some x → f ≡ x
 same_flow side l s f x stands is = let same : Some f ≡ Some x = sym stands.is ∙ is in cc
 
-same_station : (side : Side) (a : Air) → (station_of side a).end ≡ end_at side a
+pub same_station : (side : Side) (a : Air) → (station_of side a).end ≡ end_at side a
 same_station Nb a = refl
 same_station Ue a = refl
 
@@ -202,65 +194,35 @@ module _ (l : ℕ) (low : l ≤ 10) (newer : List Group) (now : Group) (past : L
   flow_is = ap (flow l) (same_station side air) ∙ was_at l c nb ue steps t side
 
   log_is : logged sent xs ≡ all_tell side said ++ EndBuilds side process octets ∷ []
-  log_is = logs ∙ ap (λ (y : Step). log_at air (InLife y)) step ∙ log_at_side side air (Calls (Visits turn))
-      ∙ building_log side 0 e turn build
+  log_is = step_log side air s turn sent xs logs step build
 
-  parts : BlockIn side process octets said sent xs
-  parts = block_in side process octets said sent xs log_is
+  among : BuiltAmong side process octets said sent xs
+  among = built_among side process octets said sent xs log_is
 
   abbrev first : List Record
-  first = parts.first
+  first = among.first
 
   abbrev block : Record
-  block = block_of side process parts.version octets
+  block = block_of side process among.version octets
 
   -- ---- what the records before the block tell, and those behind it
 
-  said_is : events_of side xs ≡ said
-  said_is =
-      records_events side sent xs ∙ ap (events_in side) log_is
-      ∙ events_then side (all_tell side said) (EndBuilds side process octets ∷ [])
-      ∙ append-nil (events_in side (all_tell side said)) ∙ own_told side said
-
-  first_said : events_of side first ≡ said
-  first_said = records_events side sent first ∙ ap (events_in side) parts.first_logs ∙ own_told side said
-
   first_far : told_on l (events_of (other side) first) ≡ []
-  first_far = ap (told_on l)
-      (records_events (other side) sent first ∙ ap (events_in (other side)) parts.first_logs ∙ far_told side said)
+  first_far = ap (told_on l) among.first_far
 
   first_told : told_on l (events_of side first) ≡ told_on l (events_of side xs)
-  first_told = ap (told_on l) (first_said ∙ sym said_is)
-
-  behind_told : (z : Side) → told_on l (events_of z parts.behind) ≡ []
-  behind_told z = ap (told_on l)
-      (records_events z (flight_in (first ++ block ∷ []) sent) parts.behind ∙ ap (events_in z) parts.behind_logs)
-
-  first_unsent : AllByRecursion SendsNoNewBlock first
-  first_unsent =
-      none_sent_anew sent first (subst (AllByRecursion _) (sym parts.first_logs) (tells_unbuilt side said))
-
-  behind_unsent : AllByRecursion SendsNoNewBlock parts.behind
-  behind_unsent = none_sent_anew (flight_in (first ++ block ∷ []) sent) parts.behind
-      (subst (AllByRecursion _) (sym parts.behind_logs) tt)
-
-  first_brings : AllByRecursion BringsNoBlock first
-  first_brings = none_comes_in sent first (subst (AllByRecursion _) (sym parts.first_logs) (tells_hear_none side said))
+  first_told = ap (told_on l) among.first_all
 
   first_loops : loops_in l xs ≡ [] → loops_in l first ≡ []
-  first_loops unlooped = (parts_empty (loops_in l first) (loops_in l (block ∷ parts.behind))
-      (sym (ap (loops_in l) parts.told_is ∙ looped_then Ue l first (block ∷ parts.behind)) ∙ unlooped)).0
-
-  together : ((told ++ first) ++ block ∷ []) ++ parts.behind ≡ told ++ xs
-  together =
-      append_assoc (told ++ first) (block ∷ []) parts.behind ∙ append_assoc told first (block ∷ parts.behind)
-      ∙ ap (λ (zs : List Record). told ++ zs) (sym parts.told_is)
+  first_loops unlooped = (parts_empty (loops_in l first) (loops_in l (block ∷ among.behind))
+      (sym (ap (loops_in l) among.told_is ∙ looped_then Ue l first (block ∷ among.behind)) ∙ unlooped)).0
 
   to_end : (z : Side) (f : Flow) → StandsOn z l (sending_first now past ((told ++ first) ++ block ∷ [])) f
       → StandsOn z l (sending_first now past (told ++ xs)) f
   to_end z f h =
-      subst (λ (zs : List Record). StandsOn z l (sending_first now past zs) f) together
-      (sent_quiet l now past z parts.behind ((told ++ first) ++ block ∷ []) f (behind_told z) behind_unsent h)
+      subst (λ (zs : List Record). StandsOn z l (sending_first now past zs) f) (among.together told)
+      (sent_quiet l now past z among.behind ((told ++ first) ++ block ∷ []) f (ap (told_on l) (among.behind_told z))
+      among.behind_unsent h)
 
   -- ---- the calls of both bearers
 
@@ -288,8 +250,8 @@ module _ (l : ℕ) (low : l ≤ 10) (newer : List Group) (now : Group) (past : L
   far_beside h = record {
     flow = h.flow;
     stands = to_end (other side) h.flow
-        (far_block l now past (told ++ first) side process parts.version octets h.flow
-        (sent_quiet l now past (other side) first told h.flow first_far first_unsent h.stands));
+        (far_block l now past (told ++ first) side process among.version octets h.flow
+        (sent_quiet l now past (other side) first told h.flow first_far among.first_unsent h.stands));
     by_bearer = uncalled (other side) h.flow far_calls h.by_bearer;
   }
 
@@ -322,13 +284,13 @@ module _ (l : ℕ) (low : l ≤ 10) (newer : List Group) (now : Group) (past : L
     on_it =
         on_channel l (sent_by side) octets (sent_pdus said) (named_of (sender_of (sent_by side)) at_first)
         (reads_so side e stands.come turn done.0 build)
-        (ap (λ (z : Side). as_named (named_of z at_first)) (from_side side) ∙ named first parts.first_logs)
+        (ap (λ (z : Side). as_named (named_of z at_first)) (from_side side) ∙ named first among.first_logs)
 
     -- behind the block
     record IsBuilt (was_beside : StandsBeside side l c.pdcp_bits (was side) (sending_first now past told)) : Type 0
       where
         beside : StandsBeside side l c.pdcp_bits (now_is side) (sending_first now past (told ++ xs))
-        right : IsRightBlock l now past (told ++ first) side process parts.version octets
+        right : IsRightBlock l now past (told ++ first) side process among.version octets
 
     module _ (h : StandsBeside side l c.pdcp_bits (bearer l c nb ue steps t side) (sending_first now past told)) where
       -- the bearer isn't called, and the block carries nothing of the channel
@@ -336,14 +298,14 @@ module _ (l : ℕ) (low : l ≤ 10) (newer : List Group) (now : Group) (past : L
       none_built quiet empty =
           let no_pdus : ps ≡ [] = none_on_channel l (sent_by side) octets (sent_pdus said) ps on_it empty in
           let before = sent_quiet l now past side first told h.flow
-          (first_told ∙ none_told l c nb ue steps s t t' xs by side quiet) first_unsent h.stands in
+          (first_told ∙ none_told l c nb ue steps s t t' xs by side quiet) among.first_unsent h.stands in
           record {
             beside = record {
               flow = h.flow;
               stands = to_end side h.flow
                   (subst (λ (qs : List SentPdu). StandsOn side l
                   (sending_first now past ((told ++ first) ++ block ∷ [])) (behind_all acked qs h.flow)) no_pdus
-                  (own_block l now past (told ++ first) side process parts.version octets h.flow before));
+                  (own_block l now past (told ++ first) side process among.version octets h.flow before));
               by_bearer = uncalled side h.flow quiet h.by_bearer;
             };
             right = λ f there data'. subst (λ (qs : List SentPdu). AreRight IsRightPdu acked qs f) (sym no_pdus) tt;
@@ -363,8 +325,8 @@ module _ (l : ℕ) (low : l ≤ 10) (newer : List Group) (now : Group) (past : L
           let f = flow_over es supply h.flow in
           let before : StandsOn side l at_first f =
           gathers_sent l low newer now past none side first told es b h.flow (first_told ∙ told_one) first_far
-          (first_loops (none_looped l c nb ue steps s t t' xs by side call one far_calls refl)) first_brings
-          first_unsent is gives.right h.stands in
+          (first_loops (none_looped l c nb ue steps s t t' xs by side call one far_calls refl)) among.first_brings
+          among.first_unsent is gives.right h.stands in
           let come = stands.come in
           let well = well_at side l e (was side) stands flow_is in
           let can : CanTake c.pdcp_bits well.0 (progress (way l c nb ue steps t side) (history side m)) (was side)
@@ -386,18 +348,18 @@ module _ (l : ℕ) (low : l ≤ 10) (newer : List Group) (now : Group) (past : L
             octets_are = on_it.octets_are ∙ carried_is;
             hows_are = on_it.hows_are ∙ sym (hows_told l said)
                 ∙ ap (λ (zs : List Event). map (λ n. n.how) (sent_pdus zs))
-                (ap (told_on l) (sym said_is) ∙ told_one);
+                (ap (told_on l) (sym among.first_said ∙ among.first_all) ∙ told_one);
           } in
           let writes = take_writes c.pdcp_bits well.0 (progress (way l c nb ue steps t side) (history side m))
           (was side) (now_is side) share held supply h.flow follows.most (history side m) acked ps can left h.by_bearer
           (sends side follows.follows)
-          (λ n. acks first block first_brings first_unsent n
+          (λ n. acks first block among.first_brings among.first_unsent n
           ∙ sym (acked_kept_is follows.most (history side m) follows.follows.history n)) of_call in
           record {
             beside = record {
               flow = behind_all acked ps f;
               stands = to_end side (behind_all acked ps f)
-                  (own_block l now past (told ++ first) side process parts.version octets f before);
+                  (own_block l now past (told ++ first) side process among.version octets f before);
               by_bearer = writes.1;
             };
             right = λ x there data'.
@@ -440,12 +402,12 @@ module _ (l : ℕ) (low : l ≤ 10) (newer : List Group) (now : Group) (past : L
     built_on h = record {
       first = first;
       one = block;
-      behind = parts.behind;
-      are = parts.told_is;
-      first_unsent = first_unsent;
-      behind_unsent = behind_unsent;
+      behind = among.behind;
+      are = among.told_is;
+      first_unsent = among.first_unsent;
+      behind_unsent = among.behind_unsent;
       beside = of_both side
           (λ (x : Side). StandsBeside x l c.pdcp_bits (now_is x) (sending_first now past (told ++ xs)))
           (built (h side)).beside (far_beside (h (other side)));
-      right = is_sent l now past (told ++ first) side process parts.version octets (built (h side)).right;
+      right = is_sent l now past (told ++ first) side process among.version octets (built (h side)).right;
     }

@@ -62,7 +62,7 @@ most_stays most first (PduGiven count size ∷ es) = most_stays most first es
 most_stays most first (InLife e ∷ es) = most_stays most first es
 most_stays most first (LifeEnded ∷ es) = most_stays most first es
 
-life_account : (most first : ℕ) (es : List LifeEvent)
+pub life_account : (most first : ℕ) (es : List LifeEvent)
     → (lives_of most first es).account ≡ account_of most (running es)
 life_account most first [] = refl
 life_account most first (PduGiven count size ∷ es) = ap (account_with (SduTaken size)) (life_account most first es)

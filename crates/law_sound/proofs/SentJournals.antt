@@ -15,7 +15,6 @@ use Rattle.air_text.specs.Groups.{Group}
 use Rattle.bearer_types.specs.Sides.{is_same}
 use Rattle.bearer_types.specs.declared.config.BearerConfig.{BearerConfig}
 use Rattle.bearer_types.specs.declared.event.Event.{Event}
-use Rattle.l2_types.specs.declared.channel.Kind.TheVariants as bearers
 use Rattle.l2_types.specs.declared.side.Side.{Side}
 use Rattle.l2_types.specs.declared.side.Side.TheVariants.{Nb, Ue}
 use Rattle.mac_pdu.specs.declared.item.Direction.TheVariants as directions
@@ -65,7 +64,7 @@ use Rattle.law_sound.proofs.SentRecords.{giving_before, giving_first, sending_fi
 
 -- ---- which numbers are acknowledged, by what is kept of a flow
 
-acks_so : (most : ℕ) (es : List FlowEvent) → IsHistory es
+pub acks_so : (most : ℕ) (es : List FlowEvent) → IsHistory es
     → Acks es (account_of most es).sending.base (account_of most es).sending.numbers
 acks_so most [] h = acks_outset
 acks_so most (e ∷ es) h = acks_step e es (account_of most es) h.0 (acks_so most es h.1)
@@ -220,11 +219,8 @@ module _ (l : ℕ) (low : l ≤ 10) (newer : List Group) (now : Group) (past : L
 
   -- ---- what is acknowledged, before a record
 
-  module _ (c : BearerConfig) (config : config_of l (now ∷ past) ≡ Some c) (data' : c.kind ≡ bearers.Am)
+  module _ (c : BearerConfig) (config : config_of l (now ∷ past) ≡ Some c) (acked_so : is_acked_kind c.kind ≡ true)
       (stays : is_handover now.line ≡ false) where
-    acked_so : is_acked_kind c.kind ≡ true
-    acked_so = ap is_acked_kind data'
-
     account_so : (told : List Record) (side : Side) (one : Record)
         → account_at side l (giving_before now past told one).kept.journal.flows
         ≡ Some (lives_of c.tx.max_retx c.first ((at_told told).flows.acked side l))

@@ -20,6 +20,7 @@ use Rattle.promises.specs.Flows.{looped_at}
 use Rattle.promises.specs.Parts.{is_handover}
 use Rattle.journal_account.specs.Acked.{is_acked}
 use Rattle.journal_account.specs.FlowEvents.{FlowEvent}
+use Rattle.journal_flows.specs.Accounts.{is_acked_kind}
 use Rattle.journal_flows.specs.FlowsTold.{Histories}
 use Rattle.journal_flows.specs.Gathering.{Journal, Sending, sending_of}
 use Rattle.journal_given.specs.Supplies.{Bearer, History}
@@ -45,16 +46,16 @@ use Rattle.law_sound.specs.StepReading.{IsRead, IsFlightOf, AreReadTo}
 use Rattle.law_sound.proofs.GivenLife.{life_on}
 use Rattle.law_sound.proofs.GivenMoments.{IsGivenAt, bearer, follows_so, history}
 use Rattle.law_sound.proofs.GivenStepFacts.{stands_at}
-use Rattle.law_sound.proofs.GivenWays.{was_at}
 use Rattle.law_sound.proofs.LivedFails.{AreThere, lived_there}
 use Rattle.law_sound.proofs.LoggedEvents.{IsUnbuilt, none_sent_anew}
 use Rattle.law_sound.proofs.SentBetween.{AreSentBeside, IsSentOn, StandsBeside}
 use Rattle.law_sound.proofs.SentBuilds.{built_on}
 use Rattle.law_sound.proofs.SentJournals.{acked_behind, named_more, named_told}
 use Rattle.law_sound.proofs.SentRecords.{sending_first}
-use Rattle.law_sound.proofs.SentSizes.{sizes_over, step_sizes}
+use Rattle.law_sound.proofs.SentSizes.{sizes_over}
 use Rattle.law_sound.proofs.SentQuiet.{GoesBy, goes_by, stays_beside}
 use Rattle.law_sound.proofs.SentSteps.{BuildsNone, BuildsOne, HowItBuilds, done_act, how_it_builds}
+use Rattle.law_sound.proofs.SentSubmitted.{all_sized}
 use Rattle.law_sound.proofs.StepCarrying.{AllSaid}
 
 module _ (l : ℕ) (low : l ≤ 10) (newer : List Group) (now : Group) (past : List Group)
@@ -173,7 +174,8 @@ module _ (l : ℕ) (low : l ≤ 10) (newer : List Group) (now : Group) (past : L
           w.gathered w.is w.given v.beside.sizes side turn step done build (stands_so side) follows
           (λ before named. named_told l low newer now past none told before side sent said named (silent side) v.alike)
           (λ before one brings sends n.
-          acked_behind l low newer now past none c config data' stays told before side one brings sends n
+          acked_behind l low newer now past none c config (ap is_acked_kind data') stays told before side one brings
+          sends n
           ∙ ap (λ (es : List FlowEvent). is_acked es n) (history_is side)) beside_at in
           record {
             beside = built.beside;
@@ -190,7 +192,7 @@ module _ (l : ℕ) (low : l ≤ 10) (newer : List Group) (now : Group) (past : L
               ue = after.beside Ue;
               sizes = sizes_over l low newer now past none told xs w.gathered w'.gathered w.is w'.is
                   (subst (AllByRecursion IsSdu) (sym (looped Ue l))
-                  (step_sizes l Ue air s (bearer l c nb ue steps w.tied Ue) (was_at l c nb ue steps w.tied Ue)))
+                  (all_sized l (calls_at Ue air (InLife s)) (end_at Ue air)))
                   v.beside.sizes;
             };
             alike = named_more l low newer now past none xs told v.alike;

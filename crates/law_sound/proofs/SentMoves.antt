@@ -1,33 +1,26 @@
 -- Behind a handover, the flows that both ends of a channel send stand beside them in their next life, in which nothing
 -- was written yet, under the keys of the next cell.
-use Rattle.std.proofs.Common.{◌≡◌, ℕ, ◌%◌, ◌==◌, Bool, true, false, nat_lt, List, [], ◌∷◌, ◌++◌}
-use Rattle.std.proofs.Common.{length, Option, Some, None, refl, ap, sym, subst}
-use Rattle.std.proofs.Common.{◌∙◌, arith}
-use Rattle.std.proofs.lemmas.Bool.Decides.{nat_tests}
+use Rattle.std.proofs.Common.{◌≡◌, ℕ, ◌%◌, List, [], ◌∷◌, ◌++◌}
+use Rattle.std.proofs.Common.{Option, Some, None, refl, ap, sym, subst}
+use Rattle.std.proofs.Common.{◌∙◌}
 use Rattle.std.specs.List.{AllByRecursion}
 use Rattle.air_record.specs.declared.line.Line.TheVariants as lines
 use Rattle.air_record.specs.declared.record.Record.{Record}
 use Rattle.air_record.specs.declared.record.Record.TheVariants as records
 use Rattle.air_text.specs.Groups.{Group}
 use Rattle.bearer.specs.Acknowledged.State.{State}
-use Rattle.bearer.specs.Submitting.{refusal as flow_refusal}
 use Rattle.bearer.specs.declared.flow.Flow.{Flow as BearerFlow}
-use Rattle.bearer.specs.declared.flow.Flow.TheVariants.{Tm, Um, Am}
+use Rattle.bearer.specs.declared.flow.Flow.TheVariants.{Am}
 use Rattle.bearer_types.specs.declared.config.BearerConfig.{BearerConfig}
 use Rattle.bearer_types.specs.declared.event.Event.{Event}
 use Rattle.bearer_types.specs.declared.event.Event.TheVariants as events
 use Rattle.eps_sec.specs.declared.Cipher.{Cipher}
 use Rattle.eps_sec.specs.declared.Key.{Key}
 use Rattle.eps_sec.specs.declared.Keys.{Keys}
-use Rattle.l2_bits.specs.declared.fault.SubmitRefusal.{SubmitRefusal}
 use Rattle.l2_node.specs.Building.{visited}
-use Rattle.l2_node.specs.End.{End}
-use Rattle.l2_node.specs.Hearing.{bearer_of}
-use Rattle.l2_node.specs.Submitting.{refusal}
 use Rattle.l2_node.specs.Writing.{new_block}
 use Rattle.l2_types.specs.declared.channel.Kind.TheVariants as bearers
 use Rattle.l2_types.specs.declared.event.Clock.TheVariants.{Poll}
-use Rattle.l2_types.specs.declared.limits.TheConstants.{GREATEST_SDU}
 use Rattle.l2_types.specs.declared.side.Side.{Side}
 use Rattle.l2_types.specs.declared.side.Side.TheVariants.{Nb, Ue}
 use Rattle.pdcp_pdu.specs.declared.pdu.PdcpKind.{PdcpKind}
@@ -39,7 +32,6 @@ use Rattle.pdu_show.specs.declared.kinds.Layout.TheVariants as layouts
 use Rattle.promises.specs.Events.{told_on}
 use Rattle.promises.specs.Flows.{loops_in}
 use Rattle.promises.specs.Records.{events_of}
-use Rattle.rlc_um.specs.Transparent.{refusal as transparent_refusal}
 use Rattle.journal_flows.specs.FlowsTold.{flows_told}
 use Rattle.journal_flows.specs.Laws.{bearer_on, account_by}
 use Rattle.journal_given.specs.Giving.{lives_ended}
@@ -55,8 +47,6 @@ use Rattle.law_bearer.specs.AmBearer.Calls.{IsOfData, IsIdle}
 use Rattle.law_bearer.specs.AmBearer.Lives.{restarts}
 use Rattle.law_bearer.specs.AnyBearer.Calls.{Restart, after_all, goes}
 use Rattle.law_bearer.proofs.AmBearer.Lives.{restarts_are_deeds}
-use Rattle.law_bearer.proofs.AnyBearer.SenderCalls.{all_then}
-use Rattle.law_deliver.specs.AmChannel.Delivery.{accepted, submitted_in, was_submitted}
 use Rattle.law_deliver.specs.AmChannel.Lives.{AirStep, InLife, Moves, AreLiving, lives, lives_on, end_at}
 use Rattle.law_deliver.specs.AmChannel.Lives.{all_calls}
 use Rattle.law_deliver.specs.AmFlow.Air.{Air, Calls, Step}
@@ -67,7 +57,7 @@ use Rattle.law_deliver.proofs.AmFlow.Ups.{the_end}
 use Rattle.law_given.proofs.SupplyPdusKept.{WereSubmitted}
 use Rattle.law_given.proofs.Submissions.{submissions}
 use Rattle.law_given.proofs.Tied.{calls_of_step}
-use Rattle.law_node.specs.Calls.{Call, Submit, Visits, after}
+use Rattle.law_node.specs.Calls.{Visits}
 use Rattle.law_node.specs.Holding.{flow}
 use Rattle.law_node.specs.Telling.{told_of}
 use Rattle.law_run.specs.Order.{IsRight, KeepsOrder}
@@ -101,7 +91,7 @@ use Rattle.law_sound.proofs.SentKeys.{keys_renewed}
 use Rattle.law_sound.proofs.SentQuiet.{IsSentTo, calls_keep}
 use Rattle.law_sound.proofs.SentRecords.{sent_still, sending_first}
 use Rattle.law_sound.proofs.SentSteps.{BuildsNone, BuildsOne, HowItBuilds, how_it_builds}
-use Rattle.law_sound.proofs.SentSubmits.{sized_by, submitted_sized}
+use Rattle.law_sound.proofs.SentSubmitted.{all_sized}
 use Rattle.law_sound.proofs.StepLogs.{log_at_side}
 use Rattle.law_sound.proofs.StepRecords.{building_log}
 use Rattle.law_sound.proofs.Still.{IsGoneEvent, IsGone, AreGone}
@@ -175,36 +165,7 @@ steps_keep bits l side f (InLife s ∷ xs) a in_life living new there none h =
       sent = x.sent;
     })
 
--- ---- SDUs that are submitted in them have the octets that one may have
-
--- where they aren't refused
-flow_sized : (x : BearerFlow) (sdu : List ℕ) → flow_refusal x sdu ≡ None → IsSdu sdu
-unfolding flow_refusal transparent_refusal
-flow_sized (Tm b) sdu e =
-    let p = sized_by (length sdu == 0) (nat_lt GREATEST_SDU (length sdu)) _ e in
-    (grind (arith, nat_tests, p.0), grind (arith, nat_tests, p.1))
-flow_sized (Um b) sdu e = submitted_sized b.pdcp.tx sdu e
-flow_sized (Am b) sdu e = submitted_sized b.pdcp.tx sdu e
-
-unrefused_sized : (lcid : ℕ) (octets : List ℕ) (e : End) → refusal lcid octets e ≡ None → IsSdu octets
-unfolding refusal
-unrefused_sized lcid octets e = flow_sized (bearer_of lcid e).state.flow octets
-
-taken_sized : (r : Option SubmitRefusal) (here : Bool) (octets : List ℕ) → (r ≡ None → IsSdu octets)
-    → AllByRecursion IsSdu (accepted r here octets)
-taken_sized None true octets h = (h refl, tt)
-taken_sized None false octets h = tt
-taken_sized (Some why) here octets h = tt
-
-call_sized : (l : ℕ) (e : End) (c : Call) → AllByRecursion IsSdu (submitted_in l e c)
-call_sized l e (Submit lcid octets) =
-    taken_sized (refusal lcid octets e) (lcid == l) octets (unrefused_sized lcid octets e)
-call_sized l e c = tt
-
-all_sized : (l : ℕ) (cs : List Call) (e : End) → AllByRecursion IsSdu (was_submitted l cs e)
-all_sized l [] e = tt
-all_sized l (c ∷ cs) e =
-    all_then IsSdu (submitted_in l e c) (was_submitted l cs (after e c)) (call_sized l e c) (all_sized l cs (after e c))
+-- ---- SDUs that are submitted in them
 
 were_more : (sdus : List (List ℕ)) (es : List TakeEvent) → AllByRecursion IsSdu sdus → WereSubmitted IsSdu es
     → WereSubmitted IsSdu (submissions sdus es)

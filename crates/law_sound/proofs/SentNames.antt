@@ -44,7 +44,7 @@ pub record AreOfCall (b : State) (share : ℕ) (held : Option ℕ) (ps : List Se
 
 -- ---- what RLC takes isn't sent yet
 
-hows_then : (xs ys : List Event) → hows_in (xs ++ ys) ≡ hows_in xs ++ hows_in ys
+pub hows_then : (xs ys : List Event) → hows_in (xs ++ ys) ≡ hows_in xs ++ hows_in ys
 hows_then [] ys = refl
 hows_then (events.Send lcid how sn ∷ xs) ys = ap (λ (l : List How). how ∷ l) (hows_then xs ys)
 hows_then (event ∷ xs) ys = hows_then xs ys
@@ -68,7 +68,7 @@ next_none : (lcid : ℕ) (kind : PdcpKind) (n : Option Next) → hows_in (next_t
 next_none lcid kind None = refl
 next_none lcid kind (Some n) = count_none lcid kind n.count n.len n.octets
 
-taking_none : (e : Ends) → hows_in (taking_told e) ≡ []
+pub taking_none : (e : Ends) → hows_in (taking_told e) ≡ []
 unfolding taking_told
 taking_none e = next_none e.lcid e.kind (taking e.tx)
 

@@ -1,31 +1,19 @@
 -- SDUs that are submitted to a bearer of acknowledged data have as many octets as one may have: so those have that a
 -- checker gathers over records of a group.
-use Rattle.std.proofs.Common.{◌≡◌, ◌≤◌, ℕ, ◌+◌, ◌^◌, ◌==◌, Bool, true, false, if◌then◌else◌, Option, Some, None, List}
-use Rattle.std.proofs.Common.{[], ◌∷◌, ◌++◌, map, length, nat_lt, nat_le, slice_get, append-nil, append_assoc, refl, ap}
-use Rattle.std.proofs.Common.{sym, subst, ◌∙◌, arith}
+use Rattle.std.proofs.Common.{◌≡◌, ◌≤◌, ℕ, ◌+◌, ◌==◌, Bool, true, false, if◌then◌else◌, Option, Some, None, List}
+use Rattle.std.proofs.Common.{[], ◌∷◌, ◌++◌, map, append-nil, append_assoc, refl}
+use Rattle.std.proofs.Common.{sym, subst}
 use Rattle.std.specs.List.{AllByRecursion, filter}
-use Rattle.std.proofs.lemmas.Bool.{eqb-true, ltb-false}
-use Rattle.std.proofs.lemmas.Bool.Decides.{nat_tests}
 use Rattle.air_record.specs.declared.record.Arrived.TheVariants.{Got}
 use Rattle.air_record.specs.declared.record.Record.{Record}
 use Rattle.air_record.specs.declared.record.Record.TheVariants as records
 use Rattle.air_record.specs.Submissions.{submitted_by}
 use Rattle.air_text.specs.Groups.{Group}
-use Rattle.bearer.specs.Acknowledged.State.{State}
-use Rattle.bearer.specs.declared.flow.Flow.{Flow}
-use Rattle.bearer.specs.declared.flow.Flow.TheVariants.{Am}
-use Rattle.bearer.specs.Submitting.{refusal as flow_refusal}
 use Rattle.bearer_types.specs.Sides.{sender_of}
 use Rattle.bearer_types.specs.declared.event.Event.{Event}
 use Rattle.bearer_types.specs.declared.event.Event.TheVariants as events
-use Rattle.l2_bits.specs.declared.fault.SubmitRefusal.{SubmitRefusal}
-use Rattle.l2_bits.specs.declared.fault.SubmitRefusal.TheVariants.{Empty, TooLong, Full, CountEnd}
-use Rattle.l2_node.specs.End.{End}
-use Rattle.l2_node.specs.Submitting.{refusal}
-use Rattle.l2_types.specs.declared.limits.TheConstants.{GREATEST_SDU, MOST_WAITING}
 use Rattle.l2_types.specs.declared.side.Side.{Side}
 use Rattle.l2_types.specs.declared.side.Side.TheVariants.{Nb, Ue}
-use Rattle.pdcp_tx.specs.State.{State as Sending, refusal as pdcp_refusal}
 use Rattle.promises.specs.Flows.{loops_in}
 use Rattle.promises.specs.Records.{is_looped, sdu_of}
 use Rattle.journal_flows.specs.FlowsTold.{Histories}
@@ -36,15 +24,10 @@ use Rattle.journal_given.specs.Supplies.{gives, gives_other, histories, is_take,
 use Rattle.journal_given.specs.Supplies.{takes_report, told}
 use Rattle.journal_sent.specs.RightSent.{IsSdu}
 use Rattle.journal_takes.specs.TakeEvents.{PduTaken, ReportHeard, ReportTaken, SduDiscarded, SduSubmitted}
-use Rattle.law_deliver.specs.AmChannel.Delivery.{accepted, submitted_in, was_submitted}
-use Rattle.law_deliver.specs.AmChannel.Lives.{InLife, brought, calls_at, calls_by, end_at}
-use Rattle.law_deliver.specs.AmFlow.Air.{Air, Act, Block, Calls, Comes, Goes, Station, Step, AtNb, AtUe, Passes}
 use Rattle.law_given.specs.BearerRecords.{bearer_first, bearer_heard, comes_by, confirms_by, gone_by, heard_by}
 use Rattle.law_given.specs.BearerRecords.{landed_by}
 use Rattle.law_given.specs.OneBearer.{bearer_happens, changed_if}
 use Rattle.law_given.proofs.GivenRecords.{journal_at, one_behind}
-use Rattle.law_node.specs.Calls.{Call, Submit}
-use Rattle.law_node.specs.Holding.{flow}
 use Rattle.law_given.proofs.SupplyPdusKept.{WereSubmitted}
 use Rattle.law_sound.proofs.SentBetween.{HaveSizes}
 
@@ -127,7 +110,7 @@ landed_sized Ue status sequenced confirmed b h = record {
   ue = gone_sized sequenced b.ue h.ue;
 }
 
-abbrev AreSized : Option (Bearer History) → Type 0
+abbrev pub AreSized : Option (Bearer History) → Type 0
 AreSized None = Unit {0}
 AreSized (Some b) = HaveSizes b
 
@@ -180,7 +163,7 @@ loops_first l one xs h = by (is_looped l one) h
 
 module _ (l : ℕ) (low : l ≤ 10) (newer : List Group) (now : Group) (past : List Group)
     (none : submitted_by now.line ≡ None) where
-  sized_over : (xs told : List Record) → AllByRecursion IsSdu (loops_in l xs)
+  pub sized_over : (xs told : List Record) → AllByRecursion IsSdu (loops_in l xs)
       → AreSized (bearer_first l now past told) → AreSized (bearer_first l now past (told ++ xs))
   sized_over [] told sizes h =
       subst (λ (zs : List Record). AreSized (bearer_first l now past zs)) (sym (append-nil told)) h
@@ -198,65 +181,3 @@ module _ (l : ℕ) (low : l ≤ 10) (newer : List Group) (now : Group) (past : L
       → HaveSizes d
   sizes_over told xs b d is is' sizes h =
       subst AreSized is' (sized_over xs told sizes (subst AreSized (sym is) h))
-
--- ---- SDUs that an end's bearer takes
-
-few_octets : (sdu : List ℕ) (empty long : Bool) (r : Option SubmitRefusal) → (length sdu == 0) ≡ empty
-    → nat_lt GREATEST_SDU (length sdu) ≡ long
-    → (if empty then Some Empty else (if long then Some TooLong else r)) ≡ None → IsSdu sdu
-few_octets sdu true long r p q accepts = absurd cc
-few_octets sdu false true r p q accepts = absurd cc
-few_octets sdu false false r p q accepts =
-    let low = ltb-false GREATEST_SDU (length sdu) q in
-    (grind (arith, nat_tests), low)
-
-pdcp_size : (s : Sending) (sdu : List ℕ) → pdcp_refusal s sdu ≡ None → IsSdu sdu
-unfolding pdcp_refusal
-pdcp_size s sdu accepts =
-    few_octets sdu (length sdu == 0) (nat_lt GREATEST_SDU (length sdu))
-    (if nat_le MOST_WAITING (length s.waiting) then Some Full
-    else (if s.next + length s.waiting == 2 ^ 32 then Some CountEnd else None)) refl refl accepts
-
-bearer_size : (b : State) (sdu : List ℕ) → flow_refusal (Am b) sdu ≡ None → IsSdu sdu
-unfolding flow_refusal
-bearer_size b sdu accepts = pdcp_size b.pdcp.tx sdu accepts
-
-accepted_size : (l lcid : ℕ) (octets : List ℕ) (e : End) (b : State) → flow l e ≡ Am b → (r : Option SubmitRefusal)
-    → refusal lcid octets e ≡ r → AllByRecursion IsSdu (accepted r (lcid == l) octets)
-unfolding refusal
-accepted_size l lcid octets e b is (Some why) accepts = tt
-accepted_size l lcid octets e b is None accepts = by (lcid == l) refl
-  where
-    by : (here : Bool) → (lcid == l) ≡ here → AllByRecursion IsSdu (if here then octets ∷ [] else [])
-    by true here = (
-      bearer_size b octets
-          (ap (λ (f : Flow). flow_refusal f octets) (sym is)
-          ∙ ap (λ (k : ℕ). flow_refusal (flow k e) octets) (sym (eqb-true lcid l here)) ∙ accepts),
-      tt,
-    )
-    by false here = tt
-
-call_sizes : (l : ℕ) (e : End) (b : State) (c : Call) → flow l e ≡ Am b → AllByRecursion IsSdu (submitted_in l e c)
-call_sizes l e b (Submit lcid octets) is = accepted_size l lcid octets e b is (refusal lcid octets e) refl
-call_sizes l e b c is = tt
-
-act_sizes : (l : ℕ) (o : Station) (e : End) (b : State) (x : Act) → flow l e ≡ Am b
-    → AllByRecursion IsSdu (was_submitted l (calls_by o x) e)
-act_sizes l o e b (Calls c) is =
-    subst (AllByRecursion IsSdu) (sym (append-nil (submitted_in l e c))) (call_sizes l e b c is)
-act_sizes l o e b (Comes k) is = by (slice_get o.blocks k)
-  where
-    by : (block : Option Block) → AllByRecursion IsSdu (was_submitted l (brought block) e)
-    by None = tt
-    by (Some block) = tt
-act_sizes l o e b (Goes k) is = tt
-
--- in a step of a life
-pub step_sizes : (l : ℕ) (side : Side) (a : Air) (s : Step) (b : State) → flow l (end_at side a) ≡ Am b
-    → AllByRecursion IsSdu (was_submitted l (calls_at side a (InLife s)) (end_at side a))
-step_sizes l Nb a (AtNb x) b is = act_sizes l a.ue a.nb.end b x is
-step_sizes l Nb a (AtUe x) b is = tt
-step_sizes l Nb a Passes b is = tt
-step_sizes l Ue a (AtNb x) b is = tt
-step_sizes l Ue a (AtUe x) b is = act_sizes l a.nb a.ue.end b x is
-step_sizes l Ue a Passes b is = tt

@@ -1,9 +1,8 @@
 -- Behind a `submit` line, on a channel with a bearer of acknowledged data, what is kept of the flows that it sends,
 -- while the PDUs of a journal are checked, stands beside both ends: the flows are as they were, and the SDU has as many
 -- octets as one may have.
-use Rattle.std.proofs.Common.{◌≡◌, ℕ, Bool, true, false, ◌==◌, if◌then◌else◌, List, [], ◌∷◌, ◌++◌, length}
-use Rattle.std.proofs.Common.{Option, Some, None, nat_lt, refl, sym, subst, ◌∙◌, ◌⊎◌, inl, inr, arith}
-use Rattle.std.proofs.lemmas.Bool.Decides.{nat_tests}
+use Rattle.std.proofs.Common.{◌≡◌, ℕ, List, [], ◌∷◌, ◌++◌}
+use Rattle.std.proofs.Common.{None, refl, sym, subst, ◌∙◌, ◌⊎◌, inl, inr}
 use Rattle.air_record.specs.declared.line.Line.TheVariants as lines
 use Rattle.air_record.specs.declared.record.NoPlace.{NoPlace}
 use Rattle.air_record.specs.declared.record.Record.{Record}
@@ -13,12 +12,9 @@ use Rattle.bearer.specs.Acknowledged.State.{State}
 use Rattle.bearer.specs.Submitting.{refusal as flow_refusal}
 use Rattle.bearer.specs.declared.flow.Flow.TheVariants.{Am}
 use Rattle.bearer_types.specs.declared.config.BearerConfig.{BearerConfig}
-use Rattle.l2_bits.specs.declared.fault.SubmitRefusal.{SubmitRefusal}
-use Rattle.l2_bits.specs.declared.fault.SubmitRefusal.TheVariants.{Empty, TooLong}
 use Rattle.l2_types.specs.declared.channel.Kind.TheVariants as bearers
 use Rattle.l2_types.specs.declared.side.Side.{Side}
 use Rattle.l2_types.specs.declared.side.Side.TheVariants.{Nb, Ue}
-use Rattle.pdcp_tx.specs.State.{State as Sending, refusal}
 use Rattle.journal_given.specs.Giving as giving
 use Rattle.journal_given.specs.Supplies.{Bearer, History}
 use Rattle.journal_given.specs.Supplies as given
@@ -38,21 +34,9 @@ use Rattle.law_sound.proofs.SentBetween.{IsSentOn, HaveSizes, StandsBeside, AreS
 use Rattle.law_sound.proofs.SentCalls.{calls_keep_sent}
 use Rattle.law_sound.proofs.SentEnds.{GoesSending, group_ends}
 use Rattle.law_sound.proofs.SentRecords.{sending_first}
+use Rattle.law_sound.proofs.SentSubmitted.{submitted_sized}
 
--- ---- an SDU that isn't refused has 1 to 8188 octets
-
-pub sized_by : (empty long : Bool) (others : Option SubmitRefusal)
-    → (if empty then Some Empty else (if long then Some TooLong else others)) ≡ None
-    → (empty ≡ false) × (long ≡ false)
-sized_by true long others e = let no : Some Empty ≡ None = e in absurd cc
-sized_by false true others e = let no : Some TooLong ≡ None = e in absurd cc
-sized_by false false others e = (refl, refl)
-
-pub submitted_sized : (s : Sending) (sdu : List ℕ) → refusal s sdu ≡ None → IsSdu sdu
-unfolding refusal
-submitted_sized s sdu e =
-    let p = sized_by (length sdu == 0) (nat_lt 8188 (length sdu)) _ e in
-    (grind (arith, nat_tests, p.0), grind (arith, nat_tests, p.1))
+-- ---- an SDU that isn't refused
 
 accepted_sized : (b : State) (sdu : List ℕ) → flow_refusal (Am b) sdu ≡ None → IsSdu sdu
 unfolding flow_refusal

@@ -33,4 +33,3 @@ pub mod StepReading
 pub mod GroupReading
 pub mod ElsewhereLaws
 pub mod AgreeLaws
-pub mod SentData

@@ -1,6 +1,6 @@
 -- How the run of a script tells of its flows, and so what it hands up of acknowledged data, what
--- RLC takes of it, what its data PDUs carry, when its flows fail, and what its STATUS PDUs say: of
--- each journal as it is promised of every script.
+-- RLC takes of it, what it takes and sends of every bearer, when flows fail, and what STATUS PDUs
+-- say: of each journal as it is promised of every script.
 use Rattle.std.specs.Prelude.{◌≡◌, ℕ, Bool, false, List}
 use Rattle.air_run.specs.Journal.{RunPlayed}
 use Rattle.promises.specs.Delivery.{is_forged}
@@ -9,11 +9,11 @@ use Rattle.journal_flows.specs.Gathering.{MayTake}
 use Rattle.journal_given.specs.Giving.{may_take_by}
 use Rattle.journal_given.specs.RightTakes.{TakesAreRight}
 use Rattle.journal_given.specs.Supplies.{histories}
+use Rattle.journal_sent.specs.RightSent.{SentIsRight, ShapesAreRight}
 use Rattle.journal_status.specs.RightStatus.{StatusIsRight}
 use Rattle.journal_delivered.specs.RightDelivery.{DeliveredIsRight}
 use Rattle.law_run.specs.Promises.{IsPromised}
 use Rattle.law_sound.specs.ComingLaws.{TellsFlows}
-use Rattle.law_sound.specs.SentData.{DataIsSent, DataIsShaped}
 
 abbrev pub RunsTellFlows : Type 0
 RunsTellFlows =
@@ -40,7 +40,7 @@ RunsTakeRightly =
 abbrev pub RunsSendRightly : Type 0
 RunsSendRightly =
     (whole : Bool) (octets : List ℕ) (played : RunPlayed) (p : IsPromised whole octets played)
-    → is_forged p.past ≡ false → DataIsSent p.past × DataIsShaped p.past
+    → is_forged p.past ≡ false → SentIsRight p.past × ShapesAreRight p.past
 
 -- an SDU may be taken as t-PollRetransmit expires, by what the journal tells
 abbrev pub RunsFailRightly : Type 0

@@ -390,10 +390,11 @@ pub fn runs_take_rightly()
     ensures { RunsTakeRightly }
 {}
 
-/// So are the data PDUs that its new blocks carry of it: each that is sent for the first time
-/// carries the octets that come next of the PDUs that PDCP gives RLC, and each that is sent again
-/// octets of its number, which isn't acknowledged; framing info, LIs, SNs and LSFs say where these
-/// octets stand (TS 36.322 5.1.3.1.1, 5.2.1, 6.2.2.4 to 6.2.2.8, TS 36.323 5.1.1).
+/// So is what RLC takes and sends of every bearer: of others than acknowledged data the SDUs are
+/// taken in their order, with the COUNTs of the life; each new PDU carries the octets that come
+/// next of the PDUs that PDCP gives RLC, and each that is sent again octets of its number, which
+/// isn't acknowledged; framing info, LIs, SNs and LSFs say where these octets stand (TS 36.322
+/// 5.1, 5.2.1, 6.2.2.3 to 6.2.2.8, TS 36.323 5.1.1).
 pub fn runs_send_rightly()
     ensures { RunsSendRightly }
 {}

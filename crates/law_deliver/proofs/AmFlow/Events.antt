@@ -19,7 +19,8 @@ use Rattle.law_bearer.specs.AnyBearer.Order.{is_signalling}
 use Rattle.law_words.specs.BearerOrder.{OfEvents as Sequences, a_status, a_report, a_take, a_data_pdu, a_wait}
 use Rattle.law_words.specs.BearerOrder.{in_a_block, an_up, of_an_sdu, of_an_arrived_sdu, of_a_data_pdu, of_a_status}
 use Rattle.law_words.specs.BearerOrder.{of_a_pdu, of_an_expiry, a_discard, of_discards, in_a_tti, at_the_end}
-use Rattle.law_words.specs.Sequences.{nothing, just, ◌then◌, ◌or◌, maybe, many, joined, any}
+use Rattle.law_words.specs.Sequences.{SequencesOf, nothing, just, ◌then◌, ◌or◌, maybe, many, joined, any}
+use Rattle.law_words.specs.Sequences.{each as all_of}
 use Rattle.bearer_types.specs.declared.event.Event.{Event}
 use Rattle.bearer_types.specs.declared.event.Event.TheVariants.{Take, Report, Send, Wait, Start, Stop, Expired, Up}
 use Rattle.bearer_types.specs.declared.event.Event.TheVariants.{Fail, Drop, Integrity, BadMac, BadRlc, BadPdcp, Discard}
@@ -38,131 +39,143 @@ use Rattle.promises.specs.Events.{is_on, told_on, discards_in, discards_on}
 
 -- ---- what holds of each event of any sequence of a set
 
-module _ (P : Event → Type 0) where
-  abbrev Hold : Sequences → Type 0
-  Hold A = (events : List Event) → A events → AllByRecursion P events
+module _ {X : Type 0} (P : X → Type 0) where
+  abbrev pub Hold : SequencesOf X → Type 0
+  Hold A = (told : List X) → A told → AllByRecursion P told
 
-  both : (xs ys : List Event) → AllByRecursion P xs → AllByRecursion P ys → AllByRecursion P (xs ++ ys)
+  pub both : (xs ys : List X) → AllByRecursion P xs → AllByRecursion P ys → AllByRecursion P (xs ++ ys)
   both [] ys p q = q
   both (x ∷ xs) ys p q = (p.0, both xs ys p.1 q)
 
-  the_same : (xs ys : List Event) → xs ≡ ys → AllByRecursion P ys → AllByRecursion P xs
-  the_same xs ys e p = subst (λ (zs : List Event). AllByRecursion P zs) (sym e) p
+  the_same : (xs ys : List X) → xs ≡ ys → AllByRecursion P ys → AllByRecursion P xs
+  the_same xs ys e p = subst (λ (zs : List X). AllByRecursion P zs) (sym e) p
 
-  never : Hold nothing
+  pub never : Hold nothing
   never events e = the_same events [] e tt
 
-  one : (x : Event) → P x → Hold (just x)
+  pub one : (x : X) → P x → Hold (just x)
   one x p events e = the_same events (x ∷ []) e (p, tt)
 
-  behind : (A B : Sequences) → Hold A → Hold B → Hold (A then B)
+  pub behind : (A B : SequencesOf X) → Hold A → Hold B → Hold (A then B)
   behind A B a b events r =
       the_same events (r.first ++ r.second) r.told_are
       (both r.first r.second (a r.first r.is_first) (b r.second r.is_second))
 
-  either : (A B : Sequences) → Hold A → Hold B → Hold (A or B)
+  pub either : (A B : SequencesOf X) → Hold A → Hold B → Hold (A or B)
   either A B a b events (inl p) = a events p
   either A B a b events (inr q) = b events q
 
-  perhaps : (A : Sequences) → Hold A → Hold (maybe A)
+  pub perhaps : (A : SequencesOf X) → Hold A → Hold (maybe A)
   perhaps A a = either nothing A never a
 
-  each_part : (A : Sequences) → Hold A → (parts : List (List Event)) → AllByRecursion A parts
+  each_part : (A : SequencesOf X) → Hold A → (parts : List (List X)) → AllByRecursion A parts
       → AllByRecursion P (joined parts)
   each_part A a [] h = tt
   each_part A a (x ∷ xs) h = both x (joined xs) (a x h.0) (each_part A a xs h.1)
 
-  each : (A : Sequences) → Hold A → Hold (many A)
+  pub each : (A : SequencesOf X) → Hold A → Hold (many A)
   each A a events r =
       the_same events (joined r.parts) r.told_are (each_part A a r.parts (recursion_from_All A r.parts r.are_each))
 
-  whichever : {Y : Type 0} (f : Y → Sequences) → ((y : Y) → Hold (f y)) → Hold (any f)
+  pub whichever : {Y : Type 0} (f : Y → SequencesOf X) → ((y : Y) → Hold (f y)) → Hold (any f)
   whichever f a events r = a r.0 events r.1
 
+  -- of each of a list, of which something is known
+  pub in_turn : {Y : Type 0} (Q : Y → Type 0) (f : Y → SequencesOf X) → ((y : Y) → Q y → Hold (f y)) → (ys : List Y)
+      → AllByRecursion Q ys → Hold (all_of f ys)
+  in_turn Q f a [] q = never
+  in_turn Q f a (y ∷ ys) q = behind (f y) (all_of f ys) (a y q.0) (in_turn Q f a ys q.1)
+
+-- why a bearer drops an SDU or a PDU
+abbrev pub IsOfBearer : Lost → Type 0
+IsOfBearer lost.NoBearer = ⊥
+IsOfBearer why = Unit {0}
+
+module _ (P : Event → Type 0) where
   -- ---- as a bearer writes
 
-  record OfWriting (m : ℕ) : Type 0 where
-    send : (way : How) (sn : ℕ) → P (Send m way sn)
-    start : (clock : Clock) → P (Start m clock)
-    report : (fms : ℕ) (bitmap : List ℕ) → P (Report m fms bitmap)
-    take : (count : Option ℕ) (len : ℕ) → P (Take m count len)
-    wait : (why : Waits) → P (Wait m why)
+  pub record OfWriting (m : ℕ) : Type 0 where
+    pub send : (way : How) (sn : ℕ) → P (Send m way sn)
+    pub start : (clock : Clock) → P (Start m clock)
+    pub report : (fms : ℕ) (bitmap : List ℕ) → P (Report m fms bitmap)
+    pub take : (count : Option ℕ) (len : ℕ) → P (Take m count len)
+    pub wait : (why : Waits) → P (Wait m why)
 
-  block_holds : (m : ℕ) → OfWriting m → Hold (in_a_block m)
+  pub block_holds : (m : ℕ) → OfWriting m → Hold P (in_a_block m)
   block_holds m w =
-      let status : Hold (a_status m) =
-      behind (any (λ (ack : ℕ). just (Send m how.Status ack))) (maybe (just (Start m Prohibit)))
-      (whichever (λ (ack : ℕ). just (Send m how.Status ack))
-      (λ ack. one (Send m how.Status ack) (w.send how.Status ack)))
-      (perhaps (just (Start m Prohibit)) (one (Start m Prohibit) (w.start Prohibit))) in
-      let report : Hold (a_report m) =
-      whichever (λ (fms : ℕ). any (λ (bitmap : List ℕ). just (Report m fms bitmap)))
-      (λ fms. whichever (λ (bitmap : List ℕ). just (Report m fms bitmap))
-      (λ bitmap. one (Report m fms bitmap) (w.report fms bitmap))) in
-      let take : Hold (a_take m) =
-      whichever (λ (count : Option ℕ). any (λ (len : ℕ). just (Take m count len)))
-      (λ count. whichever (λ (len : ℕ). just (Take m count len))
-      (λ len. one (Take m count len) (w.take count len))) in
+      let status : Hold P (a_status m) =
+      behind P (any (λ (ack : ℕ). just (Send m how.Status ack))) (maybe (just (Start m Prohibit)))
+      (whichever P (λ (ack : ℕ). just (Send m how.Status ack))
+      (λ ack. one P (Send m how.Status ack) (w.send how.Status ack)))
+      (perhaps P (just (Start m Prohibit)) (one P (Start m Prohibit) (w.start Prohibit))) in
+      let report : Hold P (a_report m) =
+      whichever P (λ (fms : ℕ). any (λ (bitmap : List ℕ). just (Report m fms bitmap)))
+      (λ fms. whichever P (λ (bitmap : List ℕ). just (Report m fms bitmap))
+      (λ bitmap. one P (Report m fms bitmap) (w.report fms bitmap))) in
+      let take : Hold P (a_take m) =
+      whichever P (λ (count : Option ℕ). any (λ (len : ℕ). just (Take m count len)))
+      (λ count. whichever P (λ (len : ℕ). just (Take m count len))
+      (λ len. one P (Take m count len) (w.take count len))) in
       let numbered : (sn : ℕ) → Sequences = λ sn. just (Send m how.New sn) or just (Send m how.Re sn) in
-      let poll : Hold (maybe (just (Start m Poll))) =
-      perhaps (just (Start m Poll)) (one (Start m Poll) (w.start Poll)) in
-      let pdu : Hold (a_data_pdu m) =
-      either (just (Send m how.Tm 0)) (any numbered then maybe (just (Start m Poll)))
-      (one (Send m how.Tm 0) (w.send how.Tm 0))
-      (behind (any numbered) (maybe (just (Start m Poll)))
-      (whichever numbered
-      (λ sn. either (just (Send m how.New sn)) (just (Send m how.Re sn))
-      (one (Send m how.New sn) (w.send how.New sn)) (one (Send m how.Re sn) (w.send how.Re sn)))) poll) in
-      let wait : Hold (a_wait m) =
-      whichever (λ (why : Waits). just (Wait m why)) (λ why. one (Wait m why) (w.wait why)) in
+      let poll : Hold P (maybe (just (Start m Poll))) =
+      perhaps P (just (Start m Poll)) (one P (Start m Poll) (w.start Poll)) in
+      let pdu : Hold P (a_data_pdu m) =
+      either P (just (Send m how.Tm 0)) (any numbered then maybe (just (Start m Poll)))
+      (one P (Send m how.Tm 0) (w.send how.Tm 0))
+      (behind P (any numbered) (maybe (just (Start m Poll)))
+      (whichever P numbered
+      (λ sn. either P (just (Send m how.New sn)) (just (Send m how.Re sn))
+      (one P (Send m how.New sn) (w.send how.New sn)) (one P (Send m how.Re sn) (w.send how.Re sn)))) poll) in
+      let wait : Hold P (a_wait m) =
+      whichever P (λ (why : Waits). just (Wait m why)) (λ why. one P (Wait m why) (w.wait why)) in
       let last : Sequences = maybe (a_data_pdu m or a_wait m) in
-      behind (maybe (a_status m)) (maybe (a_report m) then many (a_take m) then last) (perhaps (a_status m) status)
-      (behind (maybe (a_report m)) (many (a_take m) then last) (perhaps (a_report m) report)
-      (behind (many (a_take m)) last (each (a_take m) take)
-      (perhaps (a_data_pdu m or a_wait m) (either (a_data_pdu m) (a_wait m) pdu wait))))
+      behind P (maybe (a_status m)) (maybe (a_report m) then many (a_take m) then last) (perhaps P (a_status m) status)
+      (behind P (maybe (a_report m)) (many (a_take m) then last) (perhaps P (a_report m) report)
+      (behind P (many (a_take m)) last (each P (a_take m) take)
+      (perhaps P (a_data_pdu m or a_wait m) (either P (a_data_pdu m) (a_wait m) pdu wait))))
 
   -- ---- what becomes of SDUs
 
   pub record OfSdus (m : ℕ) : Type 0 where
     pub up : (sdu : List ℕ) → P (Up m sdu)
-    pub drop : (why : Lost) → P (Drop m why)
+    pub drop : (why : Lost) → IsOfBearer why → P (Drop m why)
     pub integrity : (found wanted : List ℕ) → P (Integrity m found wanted)
     pub bad_pdcp : (fault : PdcpRefusal) → P (BadPdcp m fault)
 
   module _ (m : ℕ) (w : OfSdus m) where
-    up_holds : Hold (an_up m)
-    up_holds = whichever (λ (sdu : List ℕ). just (Up m sdu)) (λ sdu. one (Up m sdu) (w.up sdu))
+    up_holds : Hold P (an_up m)
+    up_holds = whichever P (λ (sdu : List ℕ). just (Up m sdu)) (λ sdu. one P (Up m sdu) (w.up sdu))
 
-    integrity_holds : Hold (any (λ (found : List ℕ). any (λ (wanted : List ℕ). just (Integrity m found wanted))))
+    integrity_holds : Hold P (any (λ (found : List ℕ). any (λ (wanted : List ℕ). just (Integrity m found wanted))))
     integrity_holds =
-        whichever (λ (found : List ℕ). any (λ (wanted : List ℕ). just (Integrity m found wanted)))
-        (λ found. whichever (λ (wanted : List ℕ). just (Integrity m found wanted))
-        (λ wanted. one (Integrity m found wanted) (w.integrity found wanted)))
+        whichever P (λ (found : List ℕ). any (λ (wanted : List ℕ). just (Integrity m found wanted)))
+        (λ found. whichever P (λ (wanted : List ℕ). just (Integrity m found wanted))
+        (λ wanted. one P (Integrity m found wanted) (w.integrity found wanted)))
 
-    unread_holds : Hold (any (λ (fault : PdcpRefusal). just (BadPdcp m fault)))
+    unread_holds : Hold P (any (λ (fault : PdcpRefusal). just (BadPdcp m fault)))
     unread_holds =
-        whichever (λ (fault : PdcpRefusal). just (BadPdcp m fault))
-        (λ fault. one (BadPdcp m fault) (w.bad_pdcp fault))
+        whichever P (λ (fault : PdcpRefusal). just (BadPdcp m fault))
+        (λ fault. one P (BadPdcp m fault) (w.bad_pdcp fault))
 
-    sdu_holds : Hold (of_an_sdu m)
+    sdu_holds : Hold P (of_an_sdu m)
     sdu_holds =
         let unread : Sequences = any (λ (fault : PdcpRefusal). just (BadPdcp m fault)) in
         let integrity : Sequences =
         any (λ (found : List ℕ). any (λ (wanted : List ℕ). just (Integrity m found wanted))) in
-        either (many (an_up m))
+        either P (many (an_up m))
         (just (Drop m lost.Old) or just (Drop m lost.Range) or just (Drop m lost.Report) or integrity or unread)
-        (each (an_up m) up_holds)
-        (either (just (Drop m lost.Old))
+        (each P (an_up m) up_holds)
+        (either P (just (Drop m lost.Old))
         (just (Drop m lost.Range) or just (Drop m lost.Report) or integrity or unread)
-        (one (Drop m lost.Old) (w.drop lost.Old))
-        (either (just (Drop m lost.Range)) (just (Drop m lost.Report) or integrity or unread)
-        (one (Drop m lost.Range) (w.drop lost.Range))
-        (either (just (Drop m lost.Report)) (integrity or unread) (one (Drop m lost.Report) (w.drop lost.Report))
-        (either integrity unread integrity_holds unread_holds))))
+        (one P (Drop m lost.Old) (w.drop lost.Old tt))
+        (either P (just (Drop m lost.Range)) (just (Drop m lost.Report) or integrity or unread)
+        (one P (Drop m lost.Range) (w.drop lost.Range tt))
+        (either P (just (Drop m lost.Report)) (integrity or unread) (one P (Drop m lost.Report) (w.drop lost.Report tt))
+        (either P integrity unread integrity_holds unread_holds))))
 
-    pub end_holds : (signalling : Bool) → Hold (at_the_end signalling m)
-    end_holds true = each (just (Drop m lost.Handover)) (one (Drop m lost.Handover) (w.drop lost.Handover))
-    end_holds false = each (of_an_sdu m) sdu_holds
+    pub end_holds : (signalling : Bool) → Hold P (at_the_end signalling m)
+    end_holds true = each P (just (Drop m lost.Handover)) (one P (Drop m lost.Handover) (w.drop lost.Handover tt))
+    end_holds false = each P (of_an_sdu m) sdu_holds
 
   -- ---- as it hears
 
@@ -172,87 +185,87 @@ module _ (P : Event → Type 0) where
     pub expired : (clock : Clock) → P (Expired m clock)
     pub up : (sdu : List ℕ) → P (Up m sdu)
     pub fail : (sn : ℕ) → P (Fail m sn)
-    pub drop : (why : Lost) → P (Drop m why)
+    pub drop : (why : Lost) → IsOfBearer why → P (Drop m why)
     pub integrity : (found wanted : List ℕ) → P (Integrity m found wanted)
     pub bad_rlc : (fault : RlcRefusal) → P (BadRlc m fault)
     pub bad_pdcp : (fault : PdcpRefusal) → P (BadPdcp m fault)
 
   module _ (m : ℕ) (w : OfHearing m) where
-    of_sdus : OfSdus m
+    pub of_sdus : OfSdus m
     of_sdus = record { up = w.up; drop = w.drop; integrity = w.integrity; bad_pdcp = w.bad_pdcp }
 
-    arrived_sdu_holds : Hold (of_an_arrived_sdu m)
+    arrived_sdu_holds : Hold P (of_an_arrived_sdu m)
     arrived_sdu_holds =
-        either (of_an_sdu m) (just (Start m Poll)) (sdu_holds m of_sdus) (one (Start m Poll) (w.start Poll))
+        either P (of_an_sdu m) (just (Start m Poll)) (sdu_holds m of_sdus) (one P (Start m Poll) (w.start Poll))
 
-    data_pdu_holds : Hold (of_a_data_pdu m)
+    data_pdu_holds : Hold P (of_a_data_pdu m)
     data_pdu_holds =
         let stops : Sequences = maybe (just (Stop m Reorder)) in
         let starts : Sequences = maybe (just (Start m Reorder)) in
         let sdus : Sequences = many (of_an_arrived_sdu m) in
-        either (just (Drop m lost.Repeat)) (just (Drop m lost.Outside) or just (Drop m lost.Clash) or stops
-        then starts then sdus) (one (Drop m lost.Repeat) (w.drop lost.Repeat))
-        (either (just (Drop m lost.Outside)) (just (Drop m lost.Clash) or stops then starts then sdus)
-        (one (Drop m lost.Outside) (w.drop lost.Outside))
-        (either (just (Drop m lost.Clash)) (stops then starts then sdus) (one (Drop m lost.Clash) (w.drop lost.Clash))
-        (behind stops (starts then sdus) (perhaps (just (Stop m Reorder)) (one (Stop m Reorder) (w.stop Reorder)))
-        (behind starts sdus (perhaps (just (Start m Reorder)) (one (Start m Reorder) (w.start Reorder)))
-        (each (of_an_arrived_sdu m) arrived_sdu_holds)))))
+        either P (just (Drop m lost.Repeat)) (just (Drop m lost.Outside) or just (Drop m lost.Clash) or stops
+        then starts then sdus) (one P (Drop m lost.Repeat) (w.drop lost.Repeat tt))
+        (either P (just (Drop m lost.Outside)) (just (Drop m lost.Clash) or stops then starts then sdus)
+        (one P (Drop m lost.Outside) (w.drop lost.Outside tt))
+        (either P (just (Drop m lost.Clash)) (stops then starts then sdus) (one P (Drop m lost.Clash) (w.drop lost.Clash tt))
+        (behind P stops (starts then sdus) (perhaps P (just (Stop m Reorder)) (one P (Stop m Reorder) (w.stop Reorder)))
+        (behind P starts sdus (perhaps P (just (Start m Reorder)) (one P (Start m Reorder) (w.start Reorder)))
+        (each P (of_an_arrived_sdu m) arrived_sdu_holds)))))
 
-    fail_holds : Hold (any (λ (sn : ℕ). just (Fail m sn)))
-    fail_holds = whichever (λ (sn : ℕ). just (Fail m sn)) (λ sn. one (Fail m sn) (w.fail sn))
+    fail_holds : Hold P (any (λ (sn : ℕ). just (Fail m sn)))
+    fail_holds = whichever P (λ (sn : ℕ). just (Fail m sn)) (λ sn. one P (Fail m sn) (w.fail sn))
 
-    poll_holds : Hold (maybe (just (Start m Poll)))
-    poll_holds = perhaps (just (Start m Poll)) (one (Start m Poll) (w.start Poll))
+    poll_holds : Hold P (maybe (just (Start m Poll)))
+    poll_holds = perhaps P (just (Start m Poll)) (one P (Start m Poll) (w.start Poll))
 
-    status_holds : Hold (of_a_status m)
+    status_holds : Hold P (of_a_status m)
     status_holds =
         let fails : Sequences = any (λ (sn : ℕ). just (Fail m sn)) in
         let stops : Sequences = maybe (just (Stop m Poll)) in
         let starts : Sequences = maybe (just (Start m Poll)) in
-        either (just (Drop m lost.Ignored)) (fails or stops then starts)
-        (one (Drop m lost.Ignored) (w.drop lost.Ignored))
-        (either fails (stops then starts) fail_holds
-        (behind stops starts (perhaps (just (Stop m Poll)) (one (Stop m Poll) (w.stop Poll))) poll_holds))
+        either P (just (Drop m lost.Ignored)) (fails or stops then starts)
+        (one P (Drop m lost.Ignored) (w.drop lost.Ignored tt))
+        (either P fails (stops then starts) fail_holds
+        (behind P stops starts (perhaps P (just (Stop m Poll)) (one P (Stop m Poll) (w.stop Poll))) poll_holds))
 
-    pdu_holds : Hold (of_a_pdu m)
+    pub pdu_holds : Hold P (of_a_pdu m)
     pdu_holds =
         let unread : Sequences = any (λ (fault : RlcRefusal). just (BadRlc m fault)) in
-        either unread (of_a_data_pdu m or of_a_status m)
-        (whichever (λ (fault : RlcRefusal). just (BadRlc m fault))
-        (λ fault. one (BadRlc m fault) (w.bad_rlc fault)))
-        (either (of_a_data_pdu m) (of_a_status m) data_pdu_holds status_holds)
+        either P unread (of_a_data_pdu m or of_a_status m)
+        (whichever P (λ (fault : RlcRefusal). just (BadRlc m fault))
+        (λ fault. one P (BadRlc m fault) (w.bad_rlc fault)))
+        (either P (of_a_data_pdu m) (of_a_status m) data_pdu_holds status_holds)
 
-    expiry_holds : (clock : Clock) → Hold (of_an_expiry m clock)
+    pub expiry_holds : (clock : Clock) → Hold P (of_an_expiry m clock)
     expiry_holds Poll =
         let fails : Sequences = any (λ (sn : ℕ). just (Fail m sn)) in
-        behind (just (Expired m Poll)) (maybe fails) (one (Expired m Poll) (w.expired Poll)) (perhaps fails fail_holds)
+        behind P (just (Expired m Poll)) (maybe fails) (one P (Expired m Poll) (w.expired Poll)) (perhaps P fails fail_holds)
     expiry_holds Reorder =
         let starts : Sequences = maybe (just (Start m Reorder)) in
-        behind (just (Expired m Reorder)) (starts then many (of_an_sdu m)) (one (Expired m Reorder) (w.expired Reorder))
-        (behind starts (many (of_an_sdu m))
-        (perhaps (just (Start m Reorder)) (one (Start m Reorder) (w.start Reorder)))
-        (each (of_an_sdu m) (sdu_holds m of_sdus)))
-    expiry_holds Prohibit = one (Expired m Prohibit) (w.expired Prohibit)
+        behind P (just (Expired m Reorder)) (starts then many (of_an_sdu m)) (one P (Expired m Reorder) (w.expired Reorder))
+        (behind P starts (many (of_an_sdu m))
+        (perhaps P (just (Start m Reorder)) (one P (Start m Reorder) (w.start Reorder)))
+        (each P (of_an_sdu m) (sdu_holds m of_sdus)))
+    expiry_holds Prohibit = one P (Expired m Prohibit) (w.expired Prohibit)
 
-    discard_holds : ((len : ℕ) → P (Discard m len)) → Hold (a_discard m)
-    discard_holds d = whichever (λ (len : ℕ). just (Discard m len)) (λ len. one (Discard m len) (d len))
+    discard_holds : ((len : ℕ) → P (Discard m len)) → Hold P (a_discard m)
+    discard_holds d = whichever P (λ (len : ℕ). just (Discard m len)) (λ len. one P (Discard m len) (d len))
 
-    discards_holds : ((len : ℕ) → P (Discard m len)) → Hold (of_discards m)
+    discards_holds : ((len : ℕ) → P (Discard m len)) → Hold P (of_discards m)
     discards_holds d =
         let starts : Sequences = maybe (just (Start m Poll)) in
-        behind (a_discard m) (many (a_discard m) then starts) (discard_holds d)
-        (behind (many (a_discard m)) starts (each (a_discard m) (discard_holds d)) poll_holds)
+        behind P (a_discard m) (many (a_discard m) then starts) (discard_holds d)
+        (behind P (many (a_discard m)) starts (each P (a_discard m) (discard_holds d)) poll_holds)
 
-    tti_holds : ((len : ℕ) → P (Discard m len)) → Hold (in_a_tti m)
+    pub tti_holds : ((len : ℕ) → P (Discard m len)) → Hold P (in_a_tti m)
     tti_holds d =
         let expires : Clock → Sequences = λ clock. maybe (of_an_expiry m clock) in
         let late : Sequences = maybe (of_discards m) in
-        behind (expires Poll) (expires Reorder then expires Prohibit then late)
-        (perhaps (of_an_expiry m Poll) (expiry_holds Poll))
-        (behind (expires Reorder) (expires Prohibit then late) (perhaps (of_an_expiry m Reorder) (expiry_holds Reorder))
-        (behind (expires Prohibit) late (perhaps (of_an_expiry m Prohibit) (expiry_holds Prohibit))
-        (perhaps (of_discards m) (discards_holds d))))
+        behind P (expires Poll) (expires Reorder then expires Prohibit then late)
+        (perhaps P (of_an_expiry m Poll) (expiry_holds Poll))
+        (behind P (expires Reorder) (expires Prohibit then late) (perhaps P (of_an_expiry m Reorder) (expiry_holds Reorder))
+        (behind P (expires Prohibit) late (perhaps P (of_an_expiry m Prohibit) (expiry_holds Prohibit))
+        (perhaps P (of_discards m) (discards_holds d))))
 
 -- ---- what a bearer tells, in a call and as its life ends, it tells of its own channel
 
@@ -284,7 +297,7 @@ hearing_on m =
       expired = λ clock. s;
       up = λ sdu. s;
       fail = λ sn. s;
-      drop = λ why. s;
+      drop = λ why own. s;
       integrity = λ found wanted. s;
       bad_rlc = λ fault. s;
       bad_pdcp = λ fault. s;
@@ -490,7 +503,7 @@ hearing_discards l m = record {
   expired = λ clock. refl;
   up = λ sdu. refl;
   fail = λ sn. refl;
-  drop = λ why. refl;
+  drop = λ why own. refl;
   integrity = λ found wanted. refl;
   bad_rlc = λ fault. refl;
   bad_pdcp = λ fault. refl;

@@ -1,6 +1,6 @@
 -- SDUs that come back are part of those that went up: nothing is told, a record, records behind others.
-use Rattle.std.proofs.Common.{◌≡◌, ◌≤◌, ℕ, zero, suc, ◌+◌, ◌-◌, ◌==◌, List, [], ◌∷◌, ◌++◌, length, take, append_assoc}
-use Rattle.std.proofs.Common.{append-nil, refl, ap, sym, subst, ◌∙◌, arith, inl, inr}
+use Rattle.std.proofs.Common.{◌≡◌, ℕ, zero, suc, ◌+◌, ◌-◌, ◌==◌, List, [], ◌∷◌, ◌++◌, length, take, append_assoc}
+use Rattle.std.proofs.Common.{false, append-nil, refl, ap, sym, subst, ◌∙◌, arith, inl, inr}
 use Rattle.std.specs.List.{AllByRecursion, filter}
 use Rattle.std.proofs.lemmas.Bool.{cases_lt}
 use Rattle.std.proofs.lemmas.Grind.{flat_map-append}
@@ -72,7 +72,7 @@ pub back_none : (mode : Mode) (w v : List Item) → v ≡ w → ComeBack mode w 
 back_none mode w v e = record {
   each = λ n. none_at (w ++ gone_up mode (take n [])) n;
   whole = part_of_same v (w ++ []) (append-nil w ∙ sym e);
-  others = λ lcid. let same : item_count lcid v ≡ item_count lcid w = ap (item_count lcid) e in omega (arith, same);
+  all = λ lcid. let same : item_count lcid v ≡ item_count lcid w = ap (item_count lcid) e in omega (arith, same);
 }
 
 -- ---- a record
@@ -84,13 +84,13 @@ one_at mode w one (suc zero) p = rw (append-nil (looped one)) (rw (append-nil (i
 one_at mode w one (suc (suc n)) p = rw (append-nil (looped one)) (rw (append-nil (items_due mode one)) p)
 
 pub back_one : (mode : Mode) (w v : List Item) (one : Record) → ArePart (looped one ++ v) (w ++ items_due mode one)
-    → ((lcid : ℕ) → item_count lcid w + item_count lcid (items_due mode one) ≤
+    → ((lcid : ℕ) → item_count lcid w + item_count lcid (items_due mode one) ≡
     (item_count lcid (looped one) + drop_count lcid (one ∷ [])) + item_count lcid v)
     → ComeBack mode w v (one ∷ [])
 back_one mode w v one p q = record {
   each = λ n. one_at mode w one n (part_front (looped one) v (w ++ items_due mode one) p);
   whole = rw (append-nil (looped one)) (rw (append-nil (items_due mode one)) p);
-  others = λ lcid. rw (append-nil (looped one)) (rw (append-nil (items_due mode one)) (q lcid));
+  all = λ lcid. rw (append-nil (looped one)) (rw (append-nil (items_due mode one)) (q lcid));
 }
 
 -- ---- records behind others
@@ -135,30 +135,32 @@ pub back_then : (mode : Mode) (w v u : List Item) (x y : List Record) → ComeBa
 back_then mode w v u x y p q = record {
   each = λ n. then_at mode w v u x y n p q;
   whole = behind mode w v u x y p.whole q.whole;
-  others = λ lcid.
+  all = λ lcid.
       let came : item_count lcid (returned (x ++ y)) ≡ item_count lcid (returned x) + item_count lcid (returned y) =
       ap (item_count lcid) (flat_map-append looped x y) ∙ on_both lcid (returned x) (returned y) in
       let went : item_count lcid (gone_up mode (x ++ y))
       ≡ item_count lcid (gone_up mode x) + item_count lcid (gone_up mode y) =
       ap (item_count lcid) (flat_map-append (items_due mode) x y) ∙ on_both lcid (gone_up mode x) (gone_up mode y) in
       let lost : drop_count lcid (x ++ y) ≡ drop_count lcid x + drop_count lcid y = count_then (is_dropped lcid) x y in
-      omega (arith, came, went, lost, p.others lcid, q.others lcid);
+      omega (arith, came, went, lost, p.all lcid, q.all lcid);
 }
 
 -- ---- records that tell of no SDU of the loop
 
-abbrev pub IsSilent : Record → Type 0
-IsSilent one = (looped one ≡ []) × ((mode : Mode) → items_due mode one ≡ [])
+pub record IsSilent (one : Record) : Type 0 where
+  pub none_back : looped one ≡ []
+  pub none_due : (mode : Mode) → items_due mode one ≡ []
+  pub none_lost : (lcid : ℕ) → is_dropped lcid one ≡ false
 
 pub back_silent : (mode : Mode) (w : List Item) (told : List Record) → AllByRecursion IsSilent told
     → ComeBack mode w w told
 back_silent mode w [] a = back_none mode w w refl
 back_silent mode w (one ∷ more) a =
-    let none = a.0.0 in
-    let nothing = a.0.1 mode in
+    let none = a.0.none_back in
+    let nothing = a.0.none_due mode in
     let told : ArePart (looped one ++ w) (w ++ items_due mode one) =
     rw none (rw nothing (part_of_same w (w ++ []) (append-nil w))) in
     let count : (lcid : ℕ) → item_count lcid w + item_count lcid (items_due mode one)
-    ≤ (item_count lcid (looped one) + drop_count lcid (one ∷ [])) + item_count lcid w =
-    λ lcid. rw none (rw nothing (omega arith)) in
+    ≡ (item_count lcid (looped one) + drop_count lcid (one ∷ [])) + item_count lcid w =
+    λ lcid. rw none (rw nothing (rw (a.0.none_lost lcid) (omega arith))) in
     back_then mode w w w (one ∷ []) more (back_one mode w w one told count) (back_silent mode w more a.1)

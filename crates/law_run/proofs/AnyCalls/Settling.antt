@@ -2,7 +2,7 @@
 use Rattle.std.proofs.Common.{◌≡◌, ℕ, ◌%◌, ◌==◌, Bool, true, false, if◌then◌else◌, Option, Some}
 use Rattle.std.proofs.Common.{None, List, [], ◌∷◌, ◌++◌, map, append_assoc, append-nil, refl, ap, sym, subst}
 use Rattle.std.proofs.Common.{◌∙◌}
-use Rattle.std.specs.Prelude.{slice_index_or, slice_set}
+use Rattle.std.specs.Prelude.{slice_index_or, slice_set, unwrap_or}
 use Rattle.air_link.specs.Downlink.{visits as visits_process, builds, built_ndi, block_at, shows, sends, receives}
 use Rattle.air_link.specs.Downlink.{hears, feeds, told_as, is_good, saw_new, sees, answer, comes, hears_by, aired}
 use Rattle.air_link.specs.Downlink.{lands, unseen, down_order, down_by, downlink}
@@ -51,6 +51,9 @@ use Rattle.pdu_show.specs.Show.{block_shown}
 use Rattle.test_loop.specs.declared.Mode.{Mode}
 use Rattle.test_loop.specs.Items.{Item}
 use Rattle.test_loop.specs.Loops.{fresh as no_loop, is_keeping, after_set}
+use Rattle.law_node.specs.Calls.{Visits as VisitsProcess, Receive, Expire, Move}
+use Rattle.law_node.proofs.Looping.{tells_no_loop}
+use Rattle.promises.specs.Events.{TellNoLoop}
 use Rattle.law_run.specs.AnyCalls.Calls.{Call, Bears, Discards, Visits, Reports, Listens, Loops, Expires, Forges}
 use Rattle.law_run.specs.AnyCalls.Calls.{HandsOver, ReceiversExpire, SendersExpire, after}
 use Rattle.law_run.specs.AnyCalls.Loops.{ComeBack, IsAtRest, LoopsBack, mode_in}
@@ -74,7 +77,8 @@ builds_rest side t grant order l =
     let e = end_of side l in
     let m = visits_process side t grant order l in
     rests_then l m (builds side t grant order l) (rests_end side _ l)
-    (tells_rest side (building t grant order e) m (builds_none side t grant order e))
+    (tells_rest side (building t grant order e) m (builds_none side t grant order e)
+    (tells_no_loop e (VisitsProcess (record { tti = t; grant = grant; order = order; good = true }))))
 
 shows_rest : (direction : Direction) (block : List ℕ) (l : Link) → Rests l (shows direction block l)
 shows_rest direction block l =
@@ -88,10 +92,12 @@ sends_rest : (v : Visit) (side : Side) (t : ℕ) (block : List ℕ) (l : Link) �
 sends_rest New side t block l =
     let m = says (records.Block (sent_by side) (t % 8) true 0 block) l in
     rests_then l m (shows (sent_by side) block m)
-    (rests_says (records.Block (sent_by side) (t % 8) true 0 block) l (refl, λ mode. refl))
+    (rests_says (records.Block (sent_by side) (t % 8) true 0 block) l
+    (record { none_back = refl; none_due = λ mode. refl; none_lost = λ k. refl }))
     (shows_rest (sent_by side) block m)
 sends_rest (Resend rv) side t block l =
-    rests_says (records.Block (sent_by side) (t % 8) false rv block) l (refl, λ mode. refl)
+    rests_says (records.Block (sent_by side) (t % 8) false rv block) l
+    (record { none_back = refl; none_due = λ mode. refl; none_lost = λ k. refl })
 sends_rest Quiet side t block l = rests_unseen l l refl
 
 -- ---- the downlink
@@ -131,7 +137,8 @@ aired_goes mode t flipped a block l =
     let m = feeds Nb t good l in
     let n = says one m in
     goes_then mode l n (hears_by a block n)
-    (goes_resting mode l n (rests_then l m n (rests_end Nb _ l) (rests_says one m (refl, λ mode'. refl))))
+    (goes_resting mode l n (rests_then l m n (rests_end Nb _ l)
+    (rests_says one m (record { none_back = refl; none_due = λ mode. refl; none_lost = λ k. refl }))))
     (hears_by_goes mode a block n)
 
 goes_down : (mode : Mode) (v : Visit) (t : ℕ) (o : Outcome) (ndi : Bool) (block : List ℕ) (l : Link)
@@ -173,7 +180,8 @@ hears_if_rests : (good : Bool) (block : List ℕ) (l : Link) → Rests l (hears_
 hears_if_rests true block l =
     let m = receives Nb block l in
     let es = (received l.nb block).events in
-    rests_then l m (tells_all Nb es m) (rests_unseen l m refl) (tells_rest Nb es m (nb_none es))
+    rests_then l m (tells_all Nb es m) (rests_unseen l m refl) (tells_rest Nb es m (nb_none es)
+    (tells_no_loop l.nb (Receive block)))
 hears_if_rests false block l = rests_unseen l l refl
 
 goes_up : (v : Visit) (t : ℕ) (o : Outcome) (block : List ℕ) (l : Link)
@@ -187,7 +195,7 @@ goes_up v t o block l =
     let q = says one p in
     let to_n = rests_then l m n (rests_unseen l m (awake_seen v t l)) (sends_rest v Ue t block m) in
     let to_q = rests_then l p q (rests_then l n p to_n (rests_unseen n p refl))
-    (rests_says one p (refl, λ mode. refl)) in
+    (rests_says one p (record { none_back = refl; none_due = λ mode. refl; none_lost = λ k. refl })) in
     rests_then l q (hears_if good block q) to_q (hears_if_rests good block q)
 
 up_by_rests : (v : Visit) (t : ℕ) (o : Outcome) (l : Link) → Rests l (up_by v t o l)
@@ -195,7 +203,8 @@ up_by_rests New t o l = goes_up New t o (block_at t l.ue) l
 up_by_rests (Resend rv) t o l = goes_up (Resend rv) t o (block_at t l.ue) l
 up_by_rests Quiet t o l = let m = granted t None l in
     rests_then l m (up_by Quiet t o l) (rests_unseen l m refl)
-    (rests_says (records.Air directions.Up arriveds.Nothing None) m (refl, λ mode. refl))
+    (rests_says (records.Air directions.Up arriveds.Nothing None) m
+    (record { none_back = refl; none_due = λ mode. refl; none_lost = λ k. refl }))
 
 uplink_if : (b : Bool) (t grant : ℕ) (o : Outcome) (l : Link) → Rests l (if b then passes t l else grants t grant o l)
 uplink_if true t grant o l = let m = builds Ue t 0 orders.Silent l in
@@ -265,10 +274,11 @@ drain_settles mode grant l =
 
 -- ---- a timer expires, a block is forged, a handover
 
-expires_by_settles : (mode : Mode) (r : Option (List Event)) (side : Side) (l : Link)
+expires_by_settles : (mode : Mode) (r : Option (List Event)) (side : Side) (l : Link) → TellNoLoop (unwrap_or r [])
     → Settles mode l (expires_by r side l)
-expires_by_settles mode None side l = settles_resting mode l l (rests_unseen l l refl)
-expires_by_settles mode (Some told) side l = settles_looping mode l (tells_all side told l) (tells_go mode side told l)
+expires_by_settles mode None side l none = settles_resting mode l l (rests_unseen l l refl)
+expires_by_settles mode (Some told) side l none =
+    settles_looping mode l (tells_all side told l) (tells_go mode side told l none)
 
 expires_settles : (mode : Mode) (side : Side) (lcid : ℕ) (clock : Clock) (l : Link)
     → Settles mode l (expires side lcid clock l)
@@ -277,7 +287,7 @@ expires_settles mode side lcid clock l =
     let m = expires_alone side lcid clock l in
     let r = expiring side lcid clock l in
     settles_then mode l m (expires_by r side m) (settles_resting mode l m (rests_end side _ l))
-    (expires_by_settles mode r side m)
+    (expires_by_settles mode r side m (tells_no_loop (end_of side l) (Expire lcid clock)))
 
 timer_if : (b : Bool) (mode : Mode) (side : Side) (clock : Clock) (lcid : ℕ) (l : Link)
     → Settles mode l (if b then expires side lcid clock l else l)
@@ -333,13 +343,15 @@ hands_over_settles mode keys l =
     let n = tells_all Ue (leaving l.ue) m in
     settles_looping mode l n
     (goes_then mode l m n
-    (goes_then mode l j m (goes_resting mode l j (rests_unseen l j refl)) (tells_go mode Nb (leaving l.nb) j))
-    (tells_go mode Ue (leaving l.ue) m))
+    (goes_then mode l j m (goes_resting mode l j (rests_unseen l j refl))
+    (tells_go mode Nb (leaving l.nb) j (tells_no_loop l.nb (Move keys))))
+    (tells_go mode Ue (leaving l.ue) m (tells_no_loop l.ue (Move keys))))
 
 submits_by_rests : (r : Option SubmitRefusal) (side : Side) (lcid : ℕ) (sdu : List ℕ) (l : Link)
     → Rests l (submits_by r side lcid sdu l)
 submits_by_rests (Some broken) side lcid sdu l =
-    rests_says (records.Refused side lcid (no_place broken)) l (refl, λ mode. refl)
+    rests_says (records.Refused side lcid (no_place broken)) l
+    (record { none_back = refl; none_due = λ mode. refl; none_lost = λ k. refl })
 submits_by_rests None Nb lcid sdu l = rests_unseen l (submits_by None Nb lcid sdu l) refl
 submits_by_rests None Ue lcid sdu l = rests_unseen l (submits_by None Ue lcid sdu l) refl
 

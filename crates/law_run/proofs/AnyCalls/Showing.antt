@@ -181,7 +181,7 @@ shown_untold side direction kinds block =
 shown_is_silent : (one : Record) → is_shown one ≡ true → IsSilent one
 shown_is_silent (records.Of side event) h = absurd (false≢true h)
 shown_is_silent (records.Looped lcid octets) h = absurd (false≢true h)
-shown_is_silent one h = (refl, λ mode. refl)
+shown_is_silent one h = record { none_back = refl; none_due = λ mode. refl; none_lost = λ k. refl }
 
 all_silent : (rs : List Record) → AllShown rs → AllByRecursion IsSilent rs
 all_silent [] a = tt

@@ -11,8 +11,9 @@ use Rattle.law_deliver.specs.AmChannel.Lives.{AirStep, lives_on, lives, end_at, 
 use Rattle.law_deliver.specs.AmFlow.Air.{Air}
 use Rattle.promises.specs.Flows.{looped_at}
 use Rattle.promises.specs.Records.{is_looped, sdu_of}
-use Rattle.law_run.specs.TwoEnds.Along.{AreAlong}
+use Rattle.law_run.specs.TwoEnds.Along.{TellsTogether, AreAlong}
 use Rattle.law_run.specs.TwoEnds.Logs.{LogEntry, log_at, Flight, flight_behind, flight_in, logged_at, logged}
+use Rattle.law_run.proofs.TwoEnds.Together.{tells_behind}
 
 -- ---- what records tell, and others behind them
 
@@ -60,6 +61,7 @@ module _ (sent : Flight) (f : List Record) (silent : logged sent f ≡ [])
     are = ap (λ (told : List Record). f ++ told) h.are ∙ sym (append_assoc f h.now h.later);
     logs = logs_behind h.now ∙ h.logs;
     looped = λ side n. loops_behind h.now side n ∙ h.looped side n;
+    tells = tells_behind f x a h.now h.tells;
     others = subst (λ (s : Flight). AreAlong s xs (lives_on a x) h.later) (flight_more f h.now sent) h.others;
   }
 
@@ -78,6 +80,7 @@ along_more sent (x ∷ xs) ys a f g h k =
       are = ap (λ (told : List Record). told ++ g) h.are ∙ append_assoc h.now h.later g;
       logs = h.logs;
       looped = h.looped;
+      tells = h.tells;
       others = along_more s xs ys (lives_on a x) h.later g h.others
           (subst (λ (t : Flight). AreAlong t ys (lives (x ∷ xs) a) g) same k);
     }
@@ -88,12 +91,13 @@ abbrev pub LoopsIn : List Record → AirStep → Air → Side → Type 0
 LoopsIn told x a side = (n : ℕ) → looped_at side n told ≡ was_submitted n (calls_at side a x) (end_at side a)
 
 pub along_one : (sent : Flight) (x : AirStep) (a : Air) (told : List Record) → logged sent told ≡ log_at a x
-    → ((side : Side) → LoopsIn told x a side) → AreAlong sent (x ∷ []) a told
-along_one sent x a told logs looped = record {
+    → ((side : Side) → LoopsIn told x a side) → TellsTogether x a told → AreAlong sent (x ∷ []) a told
+along_one sent x a told logs looped tells = record {
   now = told;
   later = [];
   are = sym (append-nil told);
   logs = logs;
   looped = looped;
+  tells = tells;
   others = (refl, nothing_looped);
 }

@@ -35,6 +35,7 @@ use Rattle.um_losses.specs.declared.flow.Happening.TheVariants.{BlockArrived}
 use Rattle.um_losses.specs.Told.{told_in, place_behind}
 use Rattle.law_deliver.specs.UmGaps.Whats.{expiries}
 use Rattle.promises.specs.Flows.{loops_in, looped_at}
+use Rattle.law_run.specs.TwoEnds.Along.{StandTogether}
 use Rattle.law_run.specs.TwoEnds.Shown.{IsShown}
 use Rattle.law_run.specs.TwoEnds.Logs.{LogEntry, Hears, all_tell, log_in, Flight, process_of, logged, flight_in}
 use Rattle.law_run.specs.TwoEnds.On.{until, IsStation}
@@ -229,6 +230,7 @@ pub record Visited (l : ℕ) (side : Side) (t : Turn) (told : List Record) (k m 
   pub hears : (bits l : ℕ) (sent : List ℕ) → [] ≡ entries_in bits l (other side) sent told
   pub logs : (sent : Flight) → HasCome side (end_of side k)
       → log_in side 0 (end_of side k) (Visits t) ≡ logged sent told
+  pub together : StandTogether side (told_of (end_of side k) (Visits t)) told
   pub kinds_are : m.kinds ≡ k.kinds
   pub shown : HasCome side (end_of side k) → Shows l k.kinds told (call_whats side l (end_of side k) (Visits t))
 
@@ -247,6 +249,7 @@ visit_by l set side t told k m b calling end_is come x =
       says = λ bits j sent. ap (λ (e : End). said_in bits j e (Visits t)) end_is ∙ x.says bits j sent come;
       hears = λ bits j sent. x.hears bits j sent;
       logs = λ sent. ap (λ (e : End). log_in side 0 e (Visits t)) end_is ∙ x.logs sent come;
+      together = subst (λ (e : End). StandTogether side (told_of e (Visits t)) told) (sym end_is) x.together;
     })
     (λ off s n. none_looped told x.unlooped s n)
 

@@ -35,14 +35,12 @@ use Rattle.law_run.specs.TwoEnds.Logs.{LogEntry, Tells, all_tell, log_in, Flight
 use Rattle.law_run.specs.TwoEnds.On.{IsStation}
 use Rattle.promises.specs.Arrival.{entries_at}
 use Rattle.law_run.proofs.TwoEnds.Along.{flight_more, looped_more}
+use Rattle.law_run.proofs.TwoEnds.Together.{CallTogether}
 use Rattle.law_run.proofs.TwoEnds.Showing.{in_then, behind_then as place_then, events_own, events_hidden}
 use Rattle.law_run.proofs.TwoEnds.Going.{Marks, station, with_station, Behind, Any, Block', Renewed, Unread, Fits, IsAt}
 use Rattle.law_run.proofs.TwoEnds.Going.{ended, first_whats, IsLooped, Whats, no_whats, GoesBehind, Goes, goes_to}
-use Rattle.law_run.proofs.TwoEnds.Steps.{call_whats}
-use Rattle.law_run.proofs.TwoEnds.Going.{TellNoAir, none, weaken, behind_then, goes_as}
-use Rattle.law_run.proofs.TwoEnds.Steps.{Says, IsPlayed, by_sides}
-use Rattle.law_run.proofs.TwoEnds.Going.{goes_none}
-use Rattle.law_run.proofs.TwoEnds.Steps.{goes_call, call_steps}
+use Rattle.law_run.proofs.TwoEnds.Going.{TellNoAir, none, weaken, behind_then, goes_as, goes_none}
+use Rattle.law_run.proofs.TwoEnds.Steps.{Says, IsPlayed, by_sides, call_whats, goes_call, call_steps}
 use Rattle.law_run.proofs.TwoEnds.Stations.{Moment, Waits, Done, wait, IsIdle, station_goes}
 
 -- ---- a link on its way, and its air
@@ -415,6 +413,11 @@ plain_log side e (Visits t) p = absurd p
 plain_log side e (Receive block) p = absurd p
 plain_log side e c p = refl
 
+-- it visits no process
+plain_together : (side : Side) (e : End) (c : EndCall) (told : List Record) → IsPlain c → CallTogether side e c told
+plain_together side e (Visits t) told p = absurd p
+plain_together side e c told p = tt
+
 -- as records tell it, where the test loop drops nothing
 pub own_logged : (side : Side) (es : List Event) → TellNoLoop es → (sent : Flight)
     → logged sent (map (records.Of side) es) ≡ all_tell side es
@@ -443,6 +446,7 @@ says_so side told given e c plain stays unflown own far submits rests logs = rec
   says = λ bits l sent. plain_says bits l e c plain stays ∙ sym (unflown bits l side sent);
   hears = λ bits l sent. plain_hears l e c plain ∙ sym (unflown bits l (other side) sent);
   logs = logs;
+  together = plain_together side e c told plain;
 }
 
 pub none_flown : TellNoAir []

@@ -33,6 +33,7 @@ use Rattle.law_run.specs.TwoEnds.Along.{at_side}
 use Rattle.law_run.specs.TwoEnds.Logs.{all_tell, log_in, log_come, Flight, logged}
 use Rattle.law_run.specs.TwoEnds.On.{IsHeld, IsStation}
 use Rattle.law_run.proofs.TwoEnds.Along.{nothing_looped, LoopsIn, along_one}
+use Rattle.law_run.proofs.TwoEnds.Together.{CallTogether, nb_together, ue_together}
 use Rattle.law_run.proofs.TwoEnds.Flying.{gone, without, without_gone}
 use Rattle.law_run.proofs.TwoEnds.Stations.{Done, wait}
 use Rattle.law_run.proofs.TwoEnds.Going.{station, with_station, Tells, Submits, Unset, Marks, moving, IsLooped}
@@ -56,6 +57,7 @@ pub record Says (side : Side) (told : List Record) (given : Side → ℕ
   pub says : (bits l : ℕ) (sent : List ℕ) → said_in bits l e c ≡ entries_in bits l side sent told
   pub hears : (bits l : ℕ) (sent : List ℕ) → heard_in l e c ≡ entries_in bits l (other side) sent told
   pub logs : (sent : Flight) → log_in side 0 e c ≡ logged sent told
+  pub together : CallTogether side e c told
 
 -- an end's one call, by what it sends and by what it hears
 said_one : (bits l : ℕ) (e : End) (c : EndCall) → ((said_in bits l e c ++ []) ++ []) ++ [] ≡ said_in bits l e c
@@ -124,7 +126,7 @@ goes_call l set Nb told given c a g life calling x looped =
           along_one sent (InLife (AtNb (Calls c))) a told (sym (x.logs sent))
           (by_sides (LoopsIn told (InLife (AtNb (Calls c))) a)
           (λ n. sym (append-nil (submitted_in n a.nb.end c) ∙ (x.submitted_is n ∙ looped off Nb n)))
-          (λ n. sym (x.other_submitted n ∙ looped off Ue n)));
+          (λ n. sym (x.other_submitted n ∙ looped off Ue n))) (nb_together c a told x.together);
       whats_are = whats_by l xs a (call_whats Nb l a.nb.end c) (λ bits. append-nil (sent_in Nb l bits a.nb.end c))
           (λ bits. append-nil (expiries l (told_of a.nb.end c)));
       air_is = refl;
@@ -148,7 +150,8 @@ goes_call l set Ue told given c a g life calling x looped =
       along = λ off sent fits.
           along_one sent (InLife (AtUe (Calls c))) a told (sym (x.logs sent))
           (by_sides (LoopsIn told (InLife (AtUe (Calls c))) a) (λ n. sym (x.other_submitted n ∙ looped off Nb n))
-          (λ n. sym (append-nil (submitted_in n a.ue.end c) ∙ (x.submitted_is n ∙ looped off Ue n))));
+          (λ n. sym (append-nil (submitted_in n a.ue.end c) ∙ (x.submitted_is n ∙ looped off Ue n))))
+          (ue_together c a told x.together);
       whats_are = whats_by l xs a (call_whats Ue l a.ue.end c) (λ bits. append-nil (expiries l (told_of a.ue.end c)))
           (λ bits. append-nil (sent_in Ue l bits a.ue.end c));
       air_is = refl;
@@ -216,7 +219,7 @@ goes_come l set c Nb told k b a open' brings there is untold unlooped =
       along = λ off sent fits.
           along_one sent (InLife (AtNb (Comes k))) a told (brings.log sent fits ∙ ap (log_come Nb e) (sym there))
           (by_sides (LoopsIn told (InLife (AtNb (Comes k))) a)
-          (λ n. ap (λ (o : Option Block). was_submitted n (brought o) e) (sym there)) unlooped);
+          (λ n. ap (λ (o : Option Block). was_submitted n (brought o) e) (sym there)) unlooped) tt;
       whats_are = whats_by l xs a (come_whats Nb l e b) (λ bits. refl)
           (λ bits. append-nil (what_came l e (slice_get a.ue.blocks k)) ∙ ap (what_came l e) there);
       air_is = ap (λ (o : Option Block). record a { nb = comes a.nb o }) there;
@@ -250,7 +253,7 @@ goes_come l set c Ue told k b a open' brings there is untold unlooped =
       along = λ off sent fits.
           along_one sent (InLife (AtUe (Comes k))) a told (brings.log sent fits ∙ ap (log_come Ue e) (sym there))
           (by_sides (LoopsIn told (InLife (AtUe (Comes k))) a) (λ n. refl)
-          (λ n. unlooped n ∙ ap (λ (o : Option Block). was_submitted n (brought o) e) (sym there)));
+          (λ n. unlooped n ∙ ap (λ (o : Option Block). was_submitted n (brought o) e) (sym there))) tt;
       whats_are =
           whats_by l xs a (come_whats Ue l e b) (λ bits. append-nil (what_came l e (slice_get a.nb.blocks k))
           ∙ ap (what_came l e) there) (λ bits. refl);
@@ -283,7 +286,7 @@ goes_move l set told keys a unflown nb ue log unlooped =
       logs = λ sent fits.
           append-nil (all_tell Nb (leaving a.nb.end) ++ all_tell Ue (leaving a.ue.end)) ∙ sym (log sent);
       along = λ off sent fits. along_one sent (Moves keys) a told (log sent)
-          (by_sides (LoopsIn told (Moves keys) a) (λ n. refl) unlooped);
+          (by_sides (LoopsIn told (Moves keys) a) (λ n. refl) unlooped) tt;
       whats_are = whats_by l xs a (move_whats l a keys) (λ bits. append-nil (move_whats l a keys bits Nb))
           (λ bits. append-nil (move_whats l a keys bits Ue));
       air_is = refl;
@@ -307,7 +310,7 @@ goes_one l set Nb k a =
       logs = λ sent fits. refl;
       along = λ off sent fits.
           along_one sent (InLife (AtNb (LetsGo k))) a [] refl
-          (by_sides (LoopsIn [] (InLife (AtNb (LetsGo k))) a) (λ n. refl) (λ n. refl));
+          (by_sides (LoopsIn [] (InLife (AtNb (LetsGo k))) a) (λ n. refl) (λ n. refl)) tt;
       whats_are = whats_by l xs a no_whats (λ bits. refl) (λ bits. refl);
       air_is = refl;
     }
@@ -324,7 +327,7 @@ goes_one l set Ue k a =
       logs = λ sent fits. refl;
       along = λ off sent fits.
           along_one sent (InLife (AtUe (LetsGo k))) a [] refl
-          (by_sides (LoopsIn [] (InLife (AtUe (LetsGo k))) a) (λ n. refl) (λ n. refl));
+          (by_sides (LoopsIn [] (InLife (AtUe (LetsGo k))) a) (λ n. refl) (λ n. refl)) tt;
       whats_are = whats_by l xs a no_whats (λ bits. refl) (λ bits. refl);
       air_is = refl;
     }
@@ -387,7 +390,8 @@ goes_pass l set t a nb ue =
       reads = λ bits from sent fits. by_sides (λ (s : Side). happened bits l s xs a ≡ []) refl refl from;
       logs = λ sent fits. refl;
       along = λ off sent fits.
-          along_one sent (InLife Passes) a [] refl (by_sides (LoopsIn [] (InLife Passes) a) (λ n. refl) (λ n. refl));
+          along_one sent (InLife Passes) a [] refl (by_sides (LoopsIn [] (InLife Passes) a) (λ n. refl) (λ n. refl))
+          tt;
       whats_are = whats_by l xs a no_whats (λ bits. refl) (λ bits. refl);
       air_is = refl;
     }

@@ -28,7 +28,7 @@ use Rattle.air_link.specs.Uplink.{awake, up_by, answers, grants, passes, uplink}
 use Rattle.law_run.proofs.AnyCalls.Going.{other_told, Seen}
 use Rattle.law_run.proofs.AnyCalls.Telling.{some_from}
 use Rattle.law_run.proofs.AnyCalls.Visiting.{visit_records, comes_seen, builds_down, sent_down, enough_by_grant}
-use Rattle.law_run.proofs.AnyCalls.Visiting.{builds_up, sent_up}
+use Rattle.law_run.proofs.AnyCalls.Visiting.{builds_up, sent_up, sent}
 use Rattle.law_deliver.specs.AmFlow.Air.{Station}
 use Rattle.law_run.proofs.TwoEnds.Going.{Marks, Behind, Any, Block', ended, none}
 use Rattle.law_run.proofs.TwoEnds.Resting.{call_rests}
@@ -38,6 +38,7 @@ use Rattle.law_run.proofs.TwoEnds.Stages.{called_ue_behind, events_unlooped, Sta
 use Rattle.law_run.proofs.TwoEnds.Stages.{says_nothing, shows_nothing}
 use Rattle.law_run.proofs.TwoEnds.Blocks.{Flown, hears_ue, hears_nb, Visiting, visit_nb, visit_ue, done_nb, done_ue}
 use Rattle.law_run.proofs.TwoEnds.Stations.{Moment, Waits, Done}
+use Rattle.law_run.proofs.TwoEnds.Together.{together_before, together_alone}
 use Rattle.law_run.proofs.TwoEnds.Visits.{turn_of, fed, IsLoud, IsSent, flown_new, flown_again, building_own, visit_own}
 use Rattle.law_run.proofs.TwoEnds.Visits.{visit_other, others_tell, visit_last, visit_says, visit_hears, visit_logs}
 use Rattle.law_run.proofs.TwoEnds.Visits.{quiet_says, quiet_logs, visit_unlooped, fed_is, quiet_is}
@@ -138,6 +139,7 @@ module _ (l : ℕ) (set : Marks) where
         says = λ bits j sent come. visit_says v bits j Nb turn k.kinds octets k.nb sent is come octets_are;
         hears = λ bits j sent. sym (visit_hears v bits j Nb turn k.kinds octets k.nb sent);
         logs = λ sent come. visit_logs v Nb turn k.kinds octets k.nb sent is come octets_are;
+        together = together_before Nb (building t grant order k.nb) (sent v Nb t k.kinds octets);
         kinds_are = ap (λ (s : Seen). s.kinds) same;
         shown = visit_shows v l Nb turn k.kinds octets k.nb is octets_are;
       }) in
@@ -169,6 +171,7 @@ module _ (l : ℕ) (set : Marks) where
         says = λ bits j sent come. quiet_says bits j Nb turn k.nb sent is;
         hears = λ bits j sent. sym (others_tell bits j Nb es sent);
         logs = λ sent come. quiet_logs Nb turn k.nb sent is;
+        together = together_alone Nb es;
         kinds_are = ap (λ (s : Seen). s.kinds) same;
         shown = λ come. quiet_shows l Nb turn k.kinds k.nb is;
       }))
@@ -245,6 +248,7 @@ module _ (l : ℕ) (set : Marks) where
         says = λ bits j sent come. visit_says v bits j Ue turn k.kinds octets k.ue sent is come octets_are;
         hears = λ bits j sent. sym (visit_hears v bits j Ue turn k.kinds octets k.ue sent);
         logs = λ sent come. visit_logs v Ue turn k.kinds octets k.ue sent is come octets_are;
+        together = together_before Ue (building t grant order k.ue) (sent v Ue t k.kinds octets);
         kinds_are = ap (λ (s : Seen). s.kinds) same;
         shown = visit_shows v l Ue turn k.kinds octets k.ue is octets_are;
       }) in
@@ -291,6 +295,7 @@ module _ (l : ℕ) (set : Marks) where
         says = λ bits j sent come. quiet_says bits j Ue turn k.ue sent is;
         hears = λ bits j sent. sym (others_tell bits j Ue es sent);
         logs = λ sent come. quiet_logs Ue turn k.ue sent is;
+        together = together_alone Ue es;
         kinds_are = ap (λ (s : Seen). s.kinds) same;
         shown = λ come. quiet_shows l Ue turn k.kinds k.ue is;
       }))

@@ -355,7 +355,7 @@ not_looped n one e = refl
 
 pub silent_unlooped : (n : ℕ) (told : List Record) → AllByRecursion IsSilent told → loops_in n told ≡ []
 silent_unlooped n [] a = refl
-silent_unlooped n (one ∷ more) a = unlooped_by n one more (not_looped n one a.0.0) (silent_unlooped n more a.1)
+silent_unlooped n (one ∷ more) a = unlooped_by n one more (not_looped n one a.0.none_back) (silent_unlooped n more a.1)
 
 sent_unlooped : (v : Visit) (side : Side) (t : ℕ) (kinds : List (Option Layout)) (octets : List ℕ) (n : ℕ)
     → loops_in n (sent v side t kinds octets) ≡ []

@@ -1,6 +1,6 @@
 -- What the test loop of a link returns: SDUs that went up at the terminal before, in order and each
 -- at most once (TS 36.509 5.4).
-use Rattle.std.specs.Prelude.{◌≡◌, ℕ, ◌+◌, ◌≤◌, false, List, [], ◌++◌, take}
+use Rattle.std.specs.Prelude.{◌≡◌, ℕ, ◌+◌, false, List, [], ◌++◌, take}
 use Rattle.air_record.specs.declared.line.Outcome.{Outcome}
 use Rattle.air_record.specs.declared.record.Record.{Record}
 use Rattle.l2_types.specs.declared.side.Side.{Side}
@@ -22,9 +22,10 @@ use Rattle.promises.specs.Loops.{ArePart, gone_up, returned, item_count, drop_co
 pub record ComeBack (mode : Mode) (before after' : List Item) (told : List Record) : Type 0 where
   pub each : (n : ℕ) → ArePart (returned (take n told)) (before ++ gone_up mode (take n told))
   pub whole : ArePart (returned told ++ after') (before ++ gone_up mode told)
-  -- of each of the others it is told that it finds no place
-  pub others : (lcid : ℕ) → item_count lcid before + item_count lcid (gone_up mode told)
-      ≤ (item_count lcid (returned told) + drop_count lcid told) + item_count lcid after'
+  -- of each channel, what was kept before and what has gone up is just what has come back, what is
+  -- dropped, and what is kept then
+  pub all : (lcid : ℕ) → item_count lcid before + item_count lcid (gone_up mode told)
+      ≡ (item_count lcid (returned told) + drop_count lcid told) + item_count lcid after'
 
 -- between calls no SDU waits for the loop, and it keeps some only in a mode with a delay
 pub record IsAtRest (l : Link) : Type 0 where

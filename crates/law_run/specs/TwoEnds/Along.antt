@@ -43,6 +43,7 @@ pub record FirstAlong (sent : Flight) (x : AirStep) (a : Air)
   pub logs : logged sent now ≡ log_at a x
   pub looped : (side : Side) (n : ℕ)
       → looped_at side n now ≡ was_submitted n (calls_at side a x) (end_at side a)
+  pub tells : TellsTogether x a now
   pub others : Others now later
 
 -- behind a block that was sent last; behind the last step stand some that tell of neither
