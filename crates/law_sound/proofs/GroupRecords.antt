@@ -191,9 +191,9 @@ module _ (now : Group) (past : List Group) (order : KeepsOrder (now ∷ past)) (
       → IsTrue (has_bearer lcid (settled one (sending_first now past told)))
   has_channel lcid told one h = elim (cases_lt 10 lcid) [
     | inl far ↦ (
-        let no : None ≡ Some h.0 =
-        sym (none_stands_above (now ∷ past) lcid order far) ∙ bearer_on_is lcid (now ∷ past) ∙ h.1 in
-        absurd cc)
+      let no : None ≡ Some h.0 =
+      sym (none_stands_above (now ∷ past) lcid order far) ∙ bearer_on_is lcid (now ∷ past) ∙ h.1 in
+      absurd cc)
     | inr low ↦ bearer_stands now past told one lcid h.0 low h.1
   ]
 
