@@ -205,6 +205,6 @@ module _ (T : Flow → Type 0) (kept : (x y : Flow) → mode y ≡ mode x → T 
 pub air_behind : (l : ℕ) (past : List Group) (c : BearerConfig) → KeepsOrder past → is_forged past ≡ false
     → config_of l past ≡ Some c → IsAirBehind l past
 air_behind l past c order own config =
-    let x = is_air (λ (x : Flow). Unit {0}) (λ x y same h. tt) (λ (kind : Kind). Unit {0}) (λ c keys side kind. tt) l past
-    c order tt config own in
+    let x = is_air (λ (x : Flow). Unit {0}) (λ x y same h. tt) (λ (kind : Kind). Unit {0}) (λ c keys side kind. tt) l
+    past c order tt config own in
     record { air = x.air; on = x.on; new = x.new; there = x.there }

@@ -55,18 +55,19 @@ use Rattle.law_sent.specs.Channels.{flow_on, only_at}
 use Rattle.law_sent.specs.Flows.{submits_to}
 use Rattle.law_sent.proofs.Channels.{bearers_begin}
 use Rattle.law_sent.proofs.ChannelsNamed.{as_named}
+use Rattle.law_sent.proofs.Flows.{flows_go_on}
+use Rattle.law_sent.proofs.FlowsNamed.{record_unsubmitted}
 use Rattle.law_sound.specs.LivedFails.{HaveComeNew}
 use Rattle.law_sound.proofs.GivenBeside.{of_both}
 use Rattle.law_sound.proofs.GivenStepFacts.{step_bearer}
 use Rattle.law_sound.proofs.GivenSubmits.{far_calls, own_calls, refuses_it}
 use Rattle.law_sound.proofs.GroupCarrying.{is_submission}
 use Rattle.law_sound.proofs.LivedFails.{AreThere}
-use Rattle.law_sound.proofs.QueueAt.{AreRightRecords, IsAirBehind, IsBase, IsQueuedAt, IsQueuedOn, QueuesBehind, QueuesOn}
+use Rattle.law_sound.proofs.QueueAt.{AreRightRecords, IsAirBehind, IsBase, IsQueuedAt, IsQueuedOn, QueuesBehind}
+use Rattle.law_sound.proofs.QueueAt.{QueuesOn}
 use Rattle.law_sound.proofs.QueueBases.{AreBasesLow}
 use Rattle.law_sound.proofs.QueueBearers.{IsOfQueue, flow_first, queue_begins, queue_keeps, queue_settles}
 use Rattle.law_sound.proofs.QueueBeside.{IsQueuedBy}
-use Rattle.law_sent.proofs.Flows.{flows_go_on}
-use Rattle.law_sent.proofs.FlowsNamed.{record_unsubmitted}
 use Rattle.law_sound.proofs.QueueNamed.{none_named_first}
 use Rattle.law_sound.proofs.QueueRecords.{first_unsubmitted}
 use Rattle.law_sound.proofs.QueueWalk.{LineQueues, line_queues}
@@ -127,7 +128,8 @@ module _ (l : ℕ) (low : l ≤ 10) (now : Group) (past : List Group) (none : su
           flow = q.flow;
           stands = (flows_go_on side l).lines now.line (all_sending histories given.histories past)
               (begins_alike l now.line other') ∙ q.stands;
-          queued = subst (λ (e : End). IsQueuedBy (flow l e) q.flow) (sym (at_end side (link_behind past) a on)) q.queued;
+          queued = subst (λ (e : End). IsQueuedBy (flow l e) q.flow) (sym (at_end side (link_behind past) a on))
+              q.queued;
         };
     silent = λ side. none_named_first l low [] now past none side order;
     alike = λ side.
@@ -326,41 +328,41 @@ first_zero bearers.Am first of is = absurd of
 
 module _ (g : Group) (past : List Group) (c : BearerConfig) (options : List ℕ)
     (right : IsRight past (record g { line = lines.Bearer c options })) (order : KeepsOrder past)
-    (kind : IsOfQueue c.kind) (bases : AreBasesLow c.channel.lcid (record g { line = lines.Bearer c options }) past)
-  where
-    abbrev begun : Group
-    begun = record g { line = lines.Bearer c options }
+    (kind : IsOfQueue c.kind)
+    (bases : AreBasesLow c.channel.lcid (record g { line = lines.Bearer c options }) past) where
+  abbrev begun : Group
+  begun = record g { line = lines.Bearer c options }
 
-    abbrev first_keys : Keys
-    first_keys = keys_or_none (state_behind past).rules.keys
+  abbrev first_keys : Keys
+  first_keys = keys_or_none (state_behind past).rules.keys
 
-    none_told : g.events ≡ []
-    none_told = (lines_tell (begun ∷ past) (right, order)).0
+  none_told : g.events ≡ []
+  none_told = (lines_tell (begun ∷ past) (right, order)).0
 
-    flow_begins : (side : Side) → flow_on side c.channel.lcid (sending_first begun past [])
-        ≡ Some (flow_first c side first_keys)
-    flow_begins side =
-        let h = keeps_channels past in
-        let fits = has_place c.kind c.channel.lcid right.in_range.lcid in
-        bearers_begin side c options (all_sending histories given.histories past) h.channels (omega (arith, fits))
-        ∙ ap (λ (keys : Keys). Some (flow_first c side keys)) (h.keys ∙ in_force past g c options right order)
+  flow_begins : (side : Side) → flow_on side c.channel.lcid (sending_first begun past [])
+      ≡ Some (flow_first c side first_keys)
+  flow_begins side =
+      let h = keeps_channels past in
+      let fits = has_place c.kind c.channel.lcid right.in_range.lcid in
+      bearers_begin side c options (all_sending histories given.histories past) h.channels (omega (arith, fits))
+      ∙ ap (λ (keys : Keys). Some (flow_first c side keys)) (h.keys ∙ in_force past g c options right order)
 
-    queued_first : (side : Side) → IsQueuedBy (flow c.channel.lcid (end_of side (link_behind (begun ∷ past))))
-        (flow_first c side first_keys)
-    queued_first side =
-        subst (λ (x : BearerFlow). IsQueuedBy x (flow_first c side first_keys))
-        (sym (ends_begin past g c options right order side).bearer_is)
-        (queue_begins c first_keys side kind right.in_range
-        (first_zero c.kind c.first kind right.first))
+  queued_first : (side : Side) → IsQueuedBy (flow c.channel.lcid (end_of side (link_behind (begun ∷ past))))
+      (flow_first c side first_keys)
+  queued_first side =
+      subst (λ (x : BearerFlow). IsQueuedBy x (flow_first c side first_keys))
+      (sym (ends_begin past g c options right order side).bearer_is)
+      (queue_begins c first_keys side kind right.in_range
+      (first_zero c.kind c.first kind right.first))
 
-    pub begins_queued : QueuesBehind c.channel.lcid (begun ∷ past)
-    begins_queued = record {
-      queues = λ side.
-          let f = flow_first c side first_keys in
-          group_settles c.channel.lcid begun past side f refl bases
-          (subst (λ (told : List Record). flow_on side c.channel.lcid (released (sending_first begun past told).submitted
-          (sending_first begun past told)) ≡ Some f) (sym none_told)
-          (none_released c.channel.lcid (record begun { events = [] }) past side f refl (flow_begins side)))
-          (queued_first side);
-      right = subst (AreRightRecords c.channel.lcid begun past []) (sym none_told) tt;
-    }
+  pub begins_queued : QueuesBehind c.channel.lcid (begun ∷ past)
+  begins_queued = record {
+    queues = λ side.
+        let f = flow_first c side first_keys in
+        group_settles c.channel.lcid begun past side f refl bases
+        (subst (λ (told : List Record). flow_on side c.channel.lcid (released (sending_first begun past told).submitted
+        (sending_first begun past told)) ≡ Some f) (sym none_told)
+        (none_released c.channel.lcid (record begun { events = [] }) past side f refl (flow_begins side)))
+        (queued_first side);
+    right = subst (AreRightRecords c.channel.lcid begun past []) (sym none_told) tt;
+  }

@@ -1,5 +1,5 @@
--- Behind a handover, on a channel whose bearers aren't of acknowledged data: what is kept of the flows stands beside both
--- ends in their next life, in which only SDUs are submitted, and each record is right on the channel.
+-- Behind a handover, on a channel whose bearers aren't of acknowledged data: what is kept of the flows stands beside
+-- both ends in their next life, in which only SDUs are submitted, and each record is right on the channel.
 use Rattle.std.proofs.Common.{◌≡◌, ◌<◌, ◌≤◌, ℕ, false, List, [], ◌∷◌, ◌++◌, Option, Some, option_map, refl, ap}
 use Rattle.std.proofs.Common.{sym, subst, ◌∙◌, arith}
 use Rattle.std.specs.List.{AllByRecursion, flat_map}
@@ -62,6 +62,7 @@ use Rattle.law_run.proofs.TwoEnds.Advancing.{handovers_move}
 use Rattle.law_run.proofs.TwoEnds.Coming.{same_on}
 use Rattle.law_run.proofs.Unlooped.{none_looped}
 use Rattle.law_sent.specs.Channels.{flow_on}
+use Rattle.law_sent.proofs.Flows.{flows_go_on}
 use Rattle.law_sound.specs.LivedFails.{HaveComeNew}
 use Rattle.law_sound.proofs.GivenCalls.{submits_over}
 use Rattle.law_sound.proofs.GivenLater.{gone_log_events, gone_told}
@@ -77,7 +78,6 @@ use Rattle.law_sound.proofs.QueueAt.{IsAirBehind, IsQueuedOn, QueuesBehind, Queu
 use Rattle.law_sound.proofs.QueueBases.{AreBasesLow}
 use Rattle.law_sound.proofs.QueueBearers.{IsOfQueue, queue_keeps, queue_restarts, queue_settles}
 use Rattle.law_sound.proofs.QueueBeside.{AreRightHere, IsQueuedBy, IsRightHere, queue_by, queue_over, queue_submits}
-use Rattle.law_sent.proofs.Flows.{flows_go_on}
 use Rattle.law_sound.proofs.QueueLines.{none_released}
 use Rattle.law_sound.proofs.QueueRecords.{AreRightOver, all_right, first_unsubmitted, flow_goes, not_data, queue_record}
 use Rattle.law_sound.proofs.QueueRecords.{queue_records, submits_both, submitted_layout}
@@ -175,8 +175,8 @@ module _ (l : ℕ) (side : Side) where
       let all : AreGone (now ++ later) = subst AreGone along.are gone in
       let loops = along.looped side l ∙ submits_over l (calls_at side a (InLife s)) (end_at side a) in
       let k = step_keeps s a sent now f living.0 new there along.logs (front IsGone now later all) loops h in
-      let y = steps_keep steps (happens a s) (flight_in now sent) later (queue_submits (looped_at side l now) f) living.1
-      life along.others (rest IsGone now later all) (lives_come_new l (InLife s ∷ []) a new (living.0, tt))
+      let y = steps_keep steps (happens a s) (flight_in now sent) later (queue_submits (looped_at side l now) f)
+      living.1 life along.others (rest IsGone now later all) (lives_come_new l (InLife s ∷ []) a new (living.0, tt))
       (step_there l a s living.0 new there) k in
       subst (IsQueuedBy (flow l (end_at side (lives steps (happens a s)))))
       (sym (submits_both (looped_at side l now) (looped_at side l later) f)
@@ -224,7 +224,8 @@ module _ (l : ℕ) (g : Group) (past : List Group) (c : BearerConfig) (user rrc 
     (right : IsRight past (record g { line = lines.Handover user rrc integrity })) (order : KeepsOrder past)
     (kind : IsOfQueue c.kind) (channel : IsChannelOf c.kind l) (low : l ≤ 10) (config : config_of l past ≡ Some c)
     (air : IsAirBehind l past)
-    (bases : AreBasesLow l (record g { line = lines.Handover user rrc integrity }) past) (queues : QueuesOn l past) where
+    (bases : AreBasesLow l (record g { line = lines.Handover user rrc integrity }) past)
+    (queues : QueuesOn l past) where
   abbrev now : Group
   now = record g { line = lines.Handover user rrc integrity }
 
@@ -298,8 +299,8 @@ module _ (l : ℕ) (g : Group) (past : List Group) (c : BearerConfig) (user rrc 
         (steps_keep l side m.by.steps moved no_flight m.behind (flow_renewed histories keys f) m.by.living m.in_life
         (m.along no_flight) behind_gone (lives_come_new l (Moves keys ∷ []) air.air air.new (tt, tt))
         (moved_there l air.air keys air.new air.there)
-        (restarts side (subst (λ (e : End). IsQueuedBy (flow l e) f) (sym (at_end side (link_behind past) air.air air.on))
-        (queues side).queued))))
+        (restarts side (subst (λ (e : End). IsQueuedBy (flow l e) f)
+        (sym (at_end side (link_behind past) air.air air.on)) (queues side).queued))))
 
     layout_is : f.layout ≡ layout_of c.kind c.rlc_bits c.pdcp_bits
     layout_is =

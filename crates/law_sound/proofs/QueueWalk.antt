@@ -220,7 +220,8 @@ module _ (l : ℕ) (low : l ≤ 10) (newer : List Group) (now : Group) (past : L
       let q = x.lived.queued just (x.rest ++ []) all in
       let last = gone_on start x.more x.rest [] x.lived.air x.lived.air q
       (silent_gone (flight_in x.more start) x.more x.rest [] x.lived.air all
-      (drained_silent (flight_in x.more start) x.rest x.rest_ends) (drained_loops x.rest x.rest_ends) q.stands q.known) in
+      (drained_silent (flight_in x.more start) x.rest x.rest_ends) (drained_loops x.rest x.rest_ends) q.stands
+      q.known) in
       record {
         air = x.lived.air;
         on = same_on m (link_behind (now ∷ past)) x.lived.air refl refl refl x.lived.on;
