@@ -118,13 +118,11 @@ discarded_first (layouts.Am (pdcp.Am bits)) f e h = absurd cc
 -- ---- bases, by kind
 
 bases_by : (kind : Kind) (l : ℕ) (past : List Group) (c : BearerConfig) → c.kind ≡ kind → IsOfQueue kind
-    → KeepsOrder past → is_forged past ≡ false → TellsFlows past → config_of l past ≡ Some c → HasBases l c past
-bases_by bearers.Tm l past c is of order own told config =
-    has_no_bases l past c order own (subst HasNoBase (sym is) tt)
-bases_by bearers.Srb l past c is of order own told config = signals_have_bases l past c order own told is config
-bases_by bearers.Um l past c is of order own told config =
-    has_no_bases l past c order own (subst HasNoBase (sym is) tt)
-bases_by bearers.Am l past c is of order own told config = absurd of
+    → KeepsOrder past → is_forged past ≡ false → HasBases l c past
+bases_by bearers.Tm l past c is of order own = has_no_bases l past c order own (subst HasNoBase (sym is) tt)
+bases_by bearers.Srb l past c is of order own = signals_have_bases l past c order own is
+bases_by bearers.Um l past c is of order own = has_no_bases l past c order own (subst HasNoBase (sym is) tt)
+bases_by bearers.Am l past c is of order own = absurd of
 
 -- ---- each PDU, by one of both tests
 
@@ -191,9 +189,9 @@ module _ (now : Group) (past : List Group) (order : KeepsOrder (now ∷ past)) (
       → IsTrue (has_bearer lcid (settled one (sending_first now past told)))
   has_channel lcid told one h = elim (cases_lt 10 lcid) [
     | inl far ↦ (
-      let no : None ≡ Some h.0 =
-      sym (none_stands_above (now ∷ past) lcid order far) ∙ bearer_on_is lcid (now ∷ past) ∙ h.1 in
-      absurd cc)
+        let no : None ≡ Some h.0 =
+        sym (none_stands_above (now ∷ past) lcid order far) ∙ bearer_on_is lcid (now ∷ past) ∙ h.1 in
+        absurd cc)
     | inr low ↦ bearer_stands now past told one lcid h.0 low h.1
   ]
 
@@ -244,7 +242,7 @@ module _ (now : Group) (past : List Group) (order : KeepsOrder (now ∷ past)) (
               let of = other_kind x.config.kind x.config.rlc_bits x.config.pdcp_bits
               (ap is_data (sym x.layout_is) ∙ e) in
               let q = queues_behind l (now ∷ past) x.config order own of x.is
-              (bases_by x.config.kind l (now ∷ past) x.config refl of order own flows_told x.is) in
+              (bases_by x.config.kind l (now ∷ past) x.config refl of order own) in
               OfQueue e (at_record l now past told others [] one
               (subst (AreRightRecords l now past []) are q.right))
 

@@ -1,6 +1,6 @@
 -- What is known of acknowledgements in each group of a journal, on a channel with bearers of signalling: by the history
 -- of each flow, as both ends follow it.
-use Rattle.std.proofs.Common.{◌≡◌, ℕ, true, false, List, [], ◌∷◌, Some, ap, sym, subst, ◌∙◌}
+use Rattle.std.proofs.Common.{◌≡◌, ℕ, true, false, List, [], ◌∷◌, ap, sym, subst, ◌∙◌}
 use Rattle.air_text.specs.Groups.{Group}
 use Rattle.bearer_types.specs.declared.config.BearerConfig.{BearerConfig}
 use Rattle.l2_types.specs.declared.channel.Kind.TheVariants as bearers
@@ -14,7 +14,6 @@ use Rattle.journal_given.specs.Giving.{may_take_by}
 use Rattle.journal_given.specs.Supplies as given
 use Rattle.law_run.specs.Order.{KeepsOrder}
 use Rattle.law_run.specs.TwoEnds.Lived.{IsAcknowledged}
-use Rattle.law_sound.specs.ComingLaws.{TellsFlows}
 use Rattle.law_sound.proofs.AlikeJournals.{alike_journals}
 use Rattle.law_sound.proofs.GroupBearers.{counts_at, formed_at, known_at, of_kind}
 use Rattle.law_sound.proofs.GroupCarrying.{config_stays, line_begun}
@@ -25,8 +24,8 @@ use Rattle.law_sound.proofs.QueueBases.{HasBases, forged_behind, order_behind}
 use Rattle.law_sound.proofs.StepCarrying.{flies_at, flight_at}
 
 pub signals_have_bases : (l : ℕ) (past : List Group) (c : BearerConfig) → KeepsOrder past → is_forged past ≡ false
-    → TellsFlows past → c.kind ≡ bearers.Srb → config_of l past ≡ Some c → HasBases l c past
-signals_have_bases l all c order own flows_told signals config' = record {
+    → c.kind ≡ bearers.Srb → HasBases l c past
+signals_have_bases l all c order own signals = record {
   each = λ newer now past are.
       let orders = order_behind newer (now ∷ past) (subst KeepsOrder are order) in
       let owns = forged_behind newer (now ∷ past) (subst (λ (gs : List Group). is_forged gs ≡ false) are own) in
