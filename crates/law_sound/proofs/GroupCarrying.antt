@@ -29,7 +29,7 @@ use Rattle.pdcp_pdu.specs.declared.pdu.PdcpKind.{PdcpKind}
 use Rattle.pdu_show.specs.declared.kinds.Layout.{Layout}
 use Rattle.pdu_show.specs.declared.kinds.Layout.TheVariants as layouts
 use Rattle.journal_flows.specs.FlowsTold.{Histories, histories, no_events}
-use Rattle.journal_flows.specs.Gathering.{Journal, Sending, MayTake, sending_of, behind, behind_line, behind_end}
+use Rattle.journal_flows.specs.Gathering.{Journal, Sending, MayTake, behind, behind_line, behind_end}
 use Rattle.journal_flows.specs.Gathering.{behind_record, behind_records}
 use Rattle.journal_flows.specs.Gathering as gathering
 use Rattle.law_deliver.specs.AmChannel.Lives.{AirStep, InLife, AreLiving, lives}

@@ -1,6 +1,6 @@
 -- Behind records of a group, on a channel whose bearers aren't of acknowledged data: what is kept of the flows that both
 -- sides send, while the PDUs of the journal are checked, stands beside both ends; each record is right on the channel.
-use Rattle.std.proofs.Common.{◌≡◌, ◌<◌, ◌≤◌, ℕ, true, List, [], ◌∷◌, ◌++◌, length, Option, Some, None}
+use Rattle.std.proofs.Common.{◌≡◌, ◌<◌, ◌≤◌, ℕ, true, List, [], ◌∷◌, ◌++◌, length, Some, None}
 use Rattle.std.specs.List.{AllByRecursion}
 use Rattle.air_record.specs.declared.record.Record.{Record}
 use Rattle.air_record.specs.declared.record.Record.TheVariants as records
@@ -24,7 +24,7 @@ use Rattle.law_deliver.specs.AmFlow.Air.{Air, Step, happens, IsGiven}
 use Rattle.law_given.proofs.GivenRecords.{BringsNoBlock, journal_at}
 use Rattle.law_node.specs.Holding.{flow}
 use Rattle.law_run.specs.TwoEnds.Along.{TellsTogether}
-use Rattle.law_run.specs.TwoEnds.Logs.{Flight, flight_in, last_in, logged, log_at}
+use Rattle.law_run.specs.TwoEnds.Logs.{Flight, flight_in, logged, log_at}
 use Rattle.law_run.specs.TwoEnds.On.{IsOn}
 use Rattle.law_run.proofs.Past.{link_behind}
 use Rattle.law_sent.specs.Channels.{AreRight, flow_on, sent_on}

@@ -11,7 +11,6 @@ use Rattle.bearer.specs.declared.flow.Flow.TheVariants.{Tm, Um, Am}
 use Rattle.bearer_pdcp.specs.Ends.{Ends}
 use Rattle.bearer_types.specs.declared.event.Event.{Event}
 use Rattle.bearer_types.specs.declared.event.Event.TheVariants as events
-use Rattle.l2_types.specs.declared.event.How.{How}
 use Rattle.pdcp_pdu.specs.declared.PdcpKind.{PdcpKind}
 use Rattle.pdcp_pdu.specs.declared.PdcpKind.TheVariants as pdcp
 use Rattle.pdcp_tx_store.specs.Waiting.{Waits}

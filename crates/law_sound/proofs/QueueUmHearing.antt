@@ -7,7 +7,6 @@ use Rattle.bearer.specs.Unacknowledged.Hearing.{Hearing, hears, hears_all, up_le
 use Rattle.bearer.specs.Unacknowledged.Hearing.{expiry_left, expiry_told, clock_left, clock_told, after_expiry}
 use Rattle.bearer.specs.Unacknowledged.Hearing.{expiry as um_expiry, timed_left, timed_told, told_of}
 use Rattle.bearer.specs.Unacknowledged.State.{State}
-use Rattle.bearer.specs.declared.flow.Flow.TheVariants.{Um}
 use Rattle.bearer_pdcp.specs.Ends.{Ends}
 use Rattle.bearer_pdcp.specs.Hearing.{is_applied, ups, got_told, with_arrived, heard_told}
 use Rattle.bearer_pdcp.specs.Telling.{turned_told, landed_told, expired_told}
@@ -33,7 +32,6 @@ use Rattle.rlc_pdu.specs.Pdus.{UmdPdu}
 use Rattle.rlc_um.specs.Receiver.{State as Receiver, landing, turning, arrival, expiring, expired as rx_expired}
 use Rattle.rlc_um.specs.Sender.{Sender}
 use Rattle.journal_sent.specs.RightSent.{Flow}
-use Rattle.law_bearer.specs.AnyBearer.Calls.{Take}
 use Rattle.law_bearer.proofs.AnyBearer.SenderCalls.{all_then}
 use Rattle.law_sound.proofs.QueueBeside.{IsQueueOf, IsUnackedBy, AreRightHere, IsRightHere, queue_by, queue_over}
 use Rattle.law_sound.proofs.QueuePdcp.{queue_heard}

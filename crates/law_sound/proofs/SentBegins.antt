@@ -28,7 +28,6 @@ use Rattle.pdu_show.specs.Kinds.{layout_of}
 use Rattle.pdu_show.specs.declared.kinds.Layout.TheVariants as layouts
 use Rattle.prioritise.proofs.ChannelLemmas.{both_false}
 use Rattle.promises.specs.Keys.{keys_in_force_by, keys_in_force}
-use Rattle.journal_given.specs.Supplies.{Bearer}
 use Rattle.journal_given.specs.Supplies as given
 use Rattle.journal_sent.specs.RightSent.{AllSent, Flow}
 use Rattle.journal_sent.specs.SentFlows.{cover_of, flow_begun}

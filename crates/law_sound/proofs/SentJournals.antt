@@ -34,8 +34,8 @@ use Rattle.journal_lives.proofs.LivesTold.{histories as are_histories, lives_are
 use Rattle.journal_flows.specs.declared.sending.Named.{Named}
 use Rattle.journal_flows.specs.Accounts.{Keeping, account_at, is_acked_kind}
 use Rattle.journal_flows.specs.FlowsTold.{Histories, histories, no_events}
-use Rattle.journal_flows.specs.Gathering.{Journal, MayTake, all_told, taken_as, report_as, reorder_as, told_by, behind}
-use Rattle.journal_flows.specs.Gathering.{behind_end, behind_line, behind_record, behind_records, sending_of, within}
+use Rattle.journal_flows.specs.Gathering.{Journal, MayTake, behind}
+use Rattle.journal_flows.specs.Gathering.{behind_end, behind_line, behind_record, behind_records, sending_of}
 use Rattle.journal_flows.specs.Gathering as gathering
 use Rattle.journal_flows.specs.Laws.{account_by}
 use Rattle.journal_flows.specs.NumberedPdus.{told}
