@@ -1,6 +1,6 @@
 -- Where no block is forged no end tells of a PDU on a channel without a bearer, as the records of a line stand.
-use Rattle.std.proofs.Common.{◌≡◌, ℕ, zero, suc, ◌+◌, ◌==◌, Bool, true, false, cond, Option, Some, None, Result, Ok, Err, List, [], ◌∷◌}
-use Rattle.std.proofs.Common.{map, sym, subst, refl, inl, inr}
+use Rattle.std.proofs.Common.{◌≡◌, ℕ, zero, suc, ◌+◌, ◌==◌, Bool, true, false, cond, Option, Some, None, Result, Ok}
+use Rattle.std.proofs.Common.{Err, List, [], ◌∷◌, map, sym, subst, refl, inl, inr}
 use Rattle.std.specs.List.{AllByRecursion, filter, list_any}
 use Rattle.air_record.specs.declared.line.Line.{Line}
 use Rattle.air_record.specs.declared.line.Line.TheVariants as lines
@@ -185,7 +185,8 @@ passes : (side : Side) (t : ℕ) (kinds : List (Option Layout)) (c : Side → Ch
     → Stand (PassesOver side t kinds c)
 passes side t kinds c told r =
     behind MayStand (GoesOut side t kinds (c side) r.octets)
-    (just (records.Air (sent_by side) r.what (Some r.feedback)) then IsHeard (other side) r.what (c (other side)) r.octets)
+    (just (records.Air (sent_by side) r.what (Some r.feedback))
+    then IsHeard (other side) r.what (c (other side)) r.octets)
     (goes_out side t kinds (c side) r.octets)
     (behind MayStand (just (records.Air (sent_by side) r.what (Some r.feedback)))
     (IsHeard (other side) r.what (c (other side)) r.octets)

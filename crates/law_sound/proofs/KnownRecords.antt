@@ -1,8 +1,8 @@
 -- In the journal of a run that forges no block each record speaks of a channel that has a bearer.
-use Rattle.std.proofs.Common.{◌≡◌, ◌≤◌, ℕ, ◌+◌, ◌==◌, Bool, true, false, cond, if◌then◌else◌, Option, Some, None, is_some}
-use Rattle.std.proofs.Common.{List, [], ◌∷◌, ◌++◌, length, take, append_assoc, IsTrue, refl, ap, sym, subst, ◌∙◌, arith, inl, inr}
+use Rattle.std.proofs.Common.{◌≡◌, ◌≤◌, ℕ, ◌+◌, ◌==◌, Bool, true, false, cond, if◌then◌else◌, Option, Some, None}
+use Rattle.std.proofs.Common.{is_some, IsTrue, List, [], ◌∷◌, ◌++◌, length, take, append_assoc, refl, ap, sym, subst}
+use Rattle.std.proofs.Common.{◌∙◌, arith, inl, inr}
 use Rattle.std.proofs.lemmas.Bool.{eq-eqb}
-use Rattle.std.proofs.lemmas.Bool.Decides.{nat_tests}
 use Rattle.std.proofs.lemmas.List.{take_all, length-append}
 use Rattle.std.proofs.lemmas.List.Elements.{filter-append}
 use Rattle.std.specs.List.{AllByRecursion, filter}
@@ -38,12 +38,12 @@ use Rattle.law_deliver.proofs.AmFlow.Events.{both}
 use Rattle.law_node.specs.Calls.{run_end}
 use Rattle.law_run.specs.Order.{KeepsOrder}
 use Rattle.law_run.proofs.AnyCalls.Going.{told_both}
-use Rattle.law_run.proofs.Counts.{come}
+use Rattle.law_run.proofs.Counts.{come, same_lcid}
 use Rattle.law_run.proofs.DrainChannels.{end_channels, has_config}
 use Rattle.law_run.proofs.LoopedUps.{dropped_went_up}
 use Rattle.law_run.proofs.Past.{link_behind}
 use Rattle.law_run.proofs.RulesKept.{lines_keep_rules}
-use Rattle.law_sound.proofs.KnownTold.{IsOfKnown, AreOfKnown, told_known}
+use Rattle.law_sound.proofs.KnownTold.{IsOfKnown, AreOfKnown, same_some, told_known}
 use Rattle.law_sound.proofs.KnownBlocks.{StandsAt, MayStand, submits, line_stands}
 
 -- the channel of which a record tells, if it tells of one
@@ -56,12 +56,6 @@ channel_in one = None
 -- its line stands before
 abbrev pub HasBearer : List Group → ℕ → Type 0
 HasBearer past lcid = (c : BearerConfig) × (config_of lcid past ≡ Some c)
-
-same_some : (m n : ℕ) → Some m ≡ Some n → m ≡ n
-same_some m n e = cc
-
-same_lcid : (m n : ℕ) → (m == n) ≡ true → m ≡ n
-same_lcid m n e = grind (arith, nat_tests)
 
 -- ---- what both ends tell
 
@@ -85,12 +79,14 @@ both_told : (side : Side) (past : List Group) → KeepsOrder past
     → AreOfKnown (HasBearer past) (events_of side (history past))
 both_told side past order =
     let by = come side past order in
-    let there : AreOfKnown (λ l. has l (end_of side (link_behind past)).bearers ≡ true) (events_of side (history past)) =
-    subst (λ (e : End). AreOfKnown (λ l. has l e.bearers ≡ true) (events_of side (history past))) (sym by.end_is)
-    (subst (AreOfKnown (λ l. has l (run_end by.calls (fresh side 4 false)).bearers ≡ true)) (sym by.told_is)
-    (told_known side 4 false by.calls by.given)) in
-    all_more (λ l. has l (end_of side (link_behind past)).bearers ≡ true) (HasBearer past) (has_line side past order)
-    (events_of side (history past)) there
+    let told = events_of side (history past) in
+    let there : End → Type 0 = λ e. AreOfKnown (λ l. has l e.bearers ≡ true) told in
+    let reached = run_end by.calls (fresh side 4 false) in
+    all_more (λ l. has l (end_of side (link_behind past)).bearers ≡ true) (HasBearer past)
+    (has_line side past order) told
+    (subst there (sym by.end_is)
+    (subst (AreOfKnown (λ l. has l reached.bearers ≡ true)) (sym by.told_is)
+    (told_known side 4 false by.calls by.given)))
 
 -- of the records before a group, and of its own
 module _ (K : ℕ → Type 0) (side : Side) (past : List Group) (g : Group)

@@ -1,6 +1,6 @@
 -- What an end tells in its calls it tells of channels that have a bearer, but of a PDU that comes on one without.
-use Rattle.std.proofs.Common.{◌≡◌, ℕ, zero, suc, ◌==◌, nat_lt, Bool, true, false, ◌||◌, if◌then◌else◌, Option, Some, None, IfSome}
-use Rattle.std.proofs.Common.{unwrap_or, Result, Ok, Err, List, [], ◌∷◌, insert, refl, ap, sym}
+use Rattle.std.proofs.Common.{◌≡◌, ℕ, zero, suc, ◌==◌, nat_lt, Bool, true, false, ◌||◌, if◌then◌else◌, Option, Some}
+use Rattle.std.proofs.Common.{None, IfSome, unwrap_or, Result, Ok, Err, List, [], ◌∷◌, insert, refl, ap, sym}
 use Rattle.std.proofs.Common.{subst, ◌∙◌, arith}
 use Rattle.std.proofs.lemmas.Bool.{eq-eqb}
 use Rattle.std.proofs.lemmas.Bool.Decides.{nat_tests}
@@ -33,7 +33,8 @@ use Rattle.prioritise.specs.Shares.{no_channels}
 use Rattle.law_words.specs.BearerOrder.{in_a_block, of_a_channel, of_an_expiry, in_a_tti, at_the_end, is_srb}
 use Rattle.law_deliver.proofs.AmFlow.Events.{Hold, both, never, one, each_one, in_turn, OfWriting, OfHearing}
 use Rattle.law_deliver.proofs.AmFlow.Events.{block_holds, pdu_holds, expiry_holds, tti_holds, end_holds, of_sdus}
-use Rattle.law_node.specs.Calls.{Call, Add, Tick, Visits, Receive, Expire, Move, IsGiven, AreGiven, after, run_end, reached}
+use Rattle.law_node.specs.Calls.{Call, Add, Tick, Visits, Receive, Expire, Move, IsGiven, AreGiven, after, run_end}
+use Rattle.law_node.specs.Calls.{reached}
 use Rattle.law_node.specs.Order.{channels, with_one, with_all, IsToldInOrder, of_an_item, of_items}
 use Rattle.law_node.specs.Telling.{told_of, told_over}
 use Rattle.law_node.proofs.Channels.{put_by_lcid, all_put}
@@ -44,6 +45,7 @@ use Rattle.law_node.proofs.Sound.{HasSoundChannels, call_channels_sound, fresh_c
 use Rattle.law_node.proofs.Standing.{channels_in, call_channels, shared_in, call_shared}
 use Rattle.law_bearer.proofs.AnyBearer.Between.{IsBetween}
 use Rattle.law_run.proofs.AnyCalls.Channels.{known_channel}
+use Rattle.law_run.proofs.Counts.{same_lcid}
 
 -- ---- of which channels events are
 
@@ -59,11 +61,8 @@ AreOfKnown K told = AllByRecursion (IsOfKnown K) told
 abbrev KnowsAll : (ℕ → Type 0) → List Channel → Type 0
 KnowsAll K cs = AllByRecursion (λ c. K c.lcid) cs
 
-same_some : (m n : ℕ) → Some m ≡ Some n → m ≡ n
+pub same_some : (m n : ℕ) → Some m ≡ Some n → m ≡ n
 same_some m n e = cc
-
-same_lcid : (m n : ℕ) → (m == n) ≡ true → n ≡ m
-same_lcid m n e = grind (arith, nat_tests)
 
 module _ (K : ℕ → Type 0) where
   -- ---- what a bearer tells
@@ -110,7 +109,7 @@ module _ (K : ℕ → Type 0) where
   known_in l (c ∷ cs) k e = by (l == c.lcid) refl (known_in l cs k.1) e
     where
       by : (b : Bool) → (l == c.lcid) ≡ b → (has_channel l cs ≡ true → K l) → (b || has_channel l cs) ≡ true → K l
-      by true same more h = subst K (same_lcid l c.lcid same) k.0
+      by true same more h = subst K (sym (same_lcid l c.lcid same)) k.0
       by false other more h = more h
 
   at_bearer : (l : ℕ) (e : End) → Knows e → has l e.bearers ≡ true → K l
@@ -219,7 +218,8 @@ module _ (K : ℕ → Type 0) where
 
   knows_then : (e : End) (c : Call) → AddsKnown c → Knows e → Knows (after e c)
   knows_then e c h k = record {
-    shared = subst (KnowsAll K) (sym (call_shared e c)) (shared_known c e.bearers e.buckets.channels h k.own_are k.shared);
+    shared = subst (KnowsAll K) (sym (call_shared e c))
+        (shared_known c e.bearers e.buckets.channels h k.own_are k.shared);
     own_are = subst (KnowsAll K) (sym (call_channels e c)) (own_known c (channels e.bearers) h k.own_are);
   }
 

@@ -212,7 +212,8 @@ module _ (P : Event → Type 0) where
         then starts then sdus) (one P (Drop m lost.Repeat) (w.drop lost.Repeat tt))
         (either P (just (Drop m lost.Outside)) (just (Drop m lost.Clash) or stops then starts then sdus)
         (one P (Drop m lost.Outside) (w.drop lost.Outside tt))
-        (either P (just (Drop m lost.Clash)) (stops then starts then sdus) (one P (Drop m lost.Clash) (w.drop lost.Clash tt))
+        (either P (just (Drop m lost.Clash)) (stops then starts then sdus)
+        (one P (Drop m lost.Clash) (w.drop lost.Clash tt))
         (behind P stops (starts then sdus) (perhaps P (just (Stop m Reorder)) (one P (Stop m Reorder) (w.stop Reorder)))
         (behind P starts sdus (perhaps P (just (Start m Reorder)) (one P (Start m Reorder) (w.start Reorder)))
         (each P (of_an_arrived_sdu m) arrived_sdu_holds)))))
@@ -244,10 +245,12 @@ module _ (P : Event → Type 0) where
     pub expiry_holds : (clock : Clock) → Hold P (of_an_expiry m clock)
     expiry_holds Poll =
         let fails : Sequences = any (λ (sn : ℕ). just (Fail m sn)) in
-        behind P (just (Expired m Poll)) (maybe fails) (one P (Expired m Poll) (w.expired Poll)) (perhaps P fails fail_holds)
+        behind P (just (Expired m Poll)) (maybe fails) (one P (Expired m Poll) (w.expired Poll))
+        (perhaps P fails fail_holds)
     expiry_holds Reorder =
         let starts : Sequences = maybe (just (Start m Reorder)) in
-        behind P (just (Expired m Reorder)) (starts then many (of_an_sdu m)) (one P (Expired m Reorder) (w.expired Reorder))
+        behind P (just (Expired m Reorder)) (starts then many (of_an_sdu m))
+        (one P (Expired m Reorder) (w.expired Reorder))
         (behind P starts (many (of_an_sdu m))
         (perhaps P (just (Start m Reorder)) (one P (Start m Reorder) (w.start Reorder)))
         (each P (of_an_sdu m) (sdu_holds m of_sdus)))
@@ -268,7 +271,8 @@ module _ (P : Event → Type 0) where
         let late : Sequences = maybe (of_discards m) in
         behind P (expires Poll) (expires Reorder then expires Prohibit then late)
         (perhaps P (of_an_expiry m Poll) (expiry_holds Poll))
-        (behind P (expires Reorder) (expires Prohibit then late) (perhaps P (of_an_expiry m Reorder) (expiry_holds Reorder))
+        (behind P (expires Reorder) (expires Prohibit then late)
+        (perhaps P (of_an_expiry m Reorder) (expiry_holds Reorder))
         (behind P (expires Prohibit) late (perhaps P (of_an_expiry m Prohibit) (expiry_holds Prohibit))
         (perhaps P (of_discards m) (discards_holds d))))
 
