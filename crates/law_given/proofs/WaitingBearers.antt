@@ -76,7 +76,7 @@ use Rattle.law_node.specs.Holding.{flow}
 use Rattle.law_given.proofs.Tied.{calls_of_step}
 use Rattle.law_given.proofs.WaitingRecords.{leaves, left_by_events, first_leaves}
 
--- ---- COUNTs never run out before the SDUs that wait
+-- ---- COUNTs never run out before the SDUs that wait, where a bearer isn't of acknowledged data
 
 -- it owes no report and gives none again; what waits has COUNTs of 32 bits, and all of these may be taken
 pub record IsQueueing (kind : PdcpKind) (e : Ends) : Type 0 where
