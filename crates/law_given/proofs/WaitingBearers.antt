@@ -1,5 +1,5 @@
--- SDUs that wait at a signalling bearer: how many, as its calls submit, take and discard them, and that RLC may take
--- one just where one waits.
+-- SDUs that wait at a bearer that isn't of acknowledged data: COUNTs never run out before them. At a signalling bearer,
+-- how many wait, as its calls submit, take and discard them, and that RLC may take one just where one waits.
 use Rattle.std.proofs.Common.{◌≡◌, ◌≤◌, ◌⊎◌, inl, inr, ℕ, ◌+◌, ◌-◌, ◌^◌, ◌==◌, ◌&&◌, not, nat_lt, is_some, Bool, true}
 use Rattle.std.proofs.Common.{false, if◌then◌else◌}
 use Rattle.std.proofs.Common.{List, [], ◌∷◌, ◌++◌, map, take, length, Option, Some, None, slice_get, append-nil, refl}
@@ -29,12 +29,14 @@ use Rattle.l2_types.specs.declared.side.Side.TheVariants.{Nb, Ue}
 use Rattle.pdcp_pdu.specs.Kinds.{is_am}
 use Rattle.pdcp_pdu.specs.declared.pdu.PdcpKind.{PdcpKind}
 use Rattle.pdcp_pdu.specs.declared.pdu.PdcpKind.TheVariants.{Srb}
+use Rattle.pdcp_pdu.specs.declared.pdu.PdcpKind.TheVariants as pdcp
 use Rattle.pdcp_rx.specs.State.{got}
 use Rattle.pdcp_rx.specs.declared.Cause.{Cause}
 use Rattle.pdcp_rx.specs.declared.Got.{Got}
 use Rattle.pdcp_rx.specs.declared.Got.TheVariants as got_as
 use Rattle.pdcp_tx.specs.Pdus.{width}
-use Rattle.pdcp_tx.specs.State.{State as Sending, offers, owed_offers, again_offer, new_offers, start, submitted}
+use Rattle.pdcp_tx.specs.State.{State as Sending, Offer, low, moved, offers, owed_offers}
+use Rattle.pdcp_tx.specs.State.{again_offer, new_offers, start, submitted}
 use Rattle.pdcp_tx.specs.State.{took_new, took, confirmed, is_overdue, after_late, ticked}
 use Rattle.pdcp_tx.specs.State.{reported, restarted as restarted_sending}
 use Rattle.pdcp_tx_store.specs.Given.{settled, with_ack, is_own, entry_at}
@@ -76,24 +78,17 @@ use Rattle.law_node.specs.Holding.{flow}
 use Rattle.law_given.proofs.Tied.{calls_of_step}
 use Rattle.law_given.proofs.WaitingRecords.{leaves, left_by_events, first_leaves}
 
--- ---- COUNTs never run out before the SDUs that wait
+-- ---- COUNTs never run out before the SDUs that wait, where a sender isn't of acknowledged data
 
--- it owes no report and gives none again; what waits has COUNTs of 32 bits, and all of these may be taken
-pub record IsQueueing (e : Ends) : Type 0 where
-  pub plain : IsPlain Srb e
+-- it owes no report and gives no SDU again; what waits has COUNTs of 32 bits, and all of these may be taken
+pub record IsQueueing (kind : PdcpKind) (e : Ends) : Type 0 where
+  pub plain : IsPlain kind e
   pub room : CountsFit e
   pub wide : 2 ^ 32 ≤ e.tx.bound
-
-abbrev IsWide : Ends → Type 0
-IsWide e = 2 ^ 32 ≤ e.tx.bound
 
 new_bound : (ws : List Waits) (s : Sending) → (took_new ws s).bound ≡ s.bound
 new_bound [] s = refl
 new_bound (w ∷ ws) s = refl
-
-took_bound : (s : Sending) → IsPlainSender Srb s → (took s).bound ≡ s.bound
-took_bound s h =
-    ap (λ (x : Sending). x.bound) (took_is Srb refl s h) ∙ new_bound (take (s.bound - s.next) s.waiting) s
 
 lates_bound : (ws : List Waits) (s : Sending) → (without_late ws s).bound ≡ s.bound
 unfolding after_late
@@ -105,119 +100,152 @@ lates_bound (w ∷ ws) s = by (is_overdue s) (lates_bound ws (after_late s))
     by true rest = rest
     by false rest = refl
 
--- no report is for it
-heard_if : (b : Bool) (e : Ends) (s : Sending) → b ≡ false → IsWide e → IsWide (if b then record e { tx = s } else e)
-heard_if true e s q h = absurd cc
-heard_if false e s q h = h
-
-got_wide : (g : Got) (cause : Cause) (e : Ends) → e.kind ≡ Srb → IsWide e → IsWide (got_left g cause e)
-got_wide got_as.Up cause e k h = h
-got_wide got_as.Stored cause e k h = h
-got_wide got_as.Old cause e k h = h
-got_wide got_as.OutOfRange cause e k h = h
-got_wide (got_as.Integrity found wanted) cause e k h = h
-got_wide (got_as.Report fms bitmap) cause e k h =
-    heard_if (is_for_sender e cause) e (reported e.tx fms bitmap)
-    (ap (λ (x : PdcpKind). is_am x && is_arrived cause) k) h
-got_wide (got_as.Unreadable fault) cause e k h = h
-
-heard_wide : (pdu : List ℕ) (cause : Cause) (e : Ends) → e.kind ≡ Srb → IsWide e → IsWide (after_hearing pdu cause e)
-unfolding after_hearing
-heard_wide pdu cause e k h = got_wide (got e.rx pdu cause) cause (with_arrived pdu cause e) k h
-
-confirmed_wide : (s : Sending) (place : ℕ) → s.kind ≡ Srb → (confirmed s place).given.entries ≡ [] → s.again ≡ []
-    → 2 ^ 32 ≤ s.bound → 2 ^ 32 ≤ (confirmed s place).bound
-unfolding confirmed
-confirmed_wide s place k none again h =
-    moved_wide (record s {
-      given = settled (with_ack s.given place);
-      reporting = s.reporting && not (is_own (entry_at s.given place));
-    }) k none again h
-
-anew_wide : (s : Sending) (keys : Keys) → s.kind ≡ Srb → 2 ^ 32 ≤ (restarted_sending s keys).bound
-unfolding restarted_sending
-anew_wide s keys k =
-    let most = ap width k in
-    omega (arith, most)
-
 submitted_bound : (s : Sending) (sdu : List ℕ) → (submitted s sdu).bound ≡ s.bound
 unfolding submitted
 submitted_bound s sdu = refl
 
-pub queueing_passes : Passes IsQueueing
-unfolding after_tick after_taking restarted_pdcp
-queueing_passes =
-    let p = plain_passes Srb refl in
-    let c = counts_pass in
-    record {
-      heard = λ pdu cause e h. record {
-        plain = p.heard pdu cause e h.plain;
-        room = c.heard pdu cause e h.room;
-        wide = heard_wide pdu cause e h.plain.own h.wide;
-      };
-      ticked = λ e h. record {
-        plain = p.ticked e h.plain;
-        room = c.ticked e h.room;
-        wide = let same = lates_bound e.tx.waiting (ticked e.tx) in omega (arith, same, h.wide);
-      };
-      taken = λ e h. record {
-        plain = p.taken e h.plain;
-        room = c.taken e h.room;
-        wide = let same = took_bound e.tx h.plain.sender in omega (arith, same, h.wide);
-      };
-      confirms = λ e place h. record {
-        plain = p.confirms e place h.plain;
-        room = c.confirms e place h.room;
-        wide = confirmed_wide e.tx place h.plain.sender.kind_is (p.confirms e place h.plain).sender.none_given
-            h.plain.sender.none_again h.wide;
-      };
-      submits = λ e octets r h. record {
-        plain = p.submits e octets r h.plain;
-        room = c.submits e octets r h.room;
-        wide = let same = submitted_bound e.tx octets in omega (arith, same, h.wide);
-      };
-      discards = λ e ttis h. record {
-        plain = p.discards e ttis h.plain;
-        room = c.discards e ttis h.room;
-        wide = h.wide;
-      };
-      restarts = λ e keys h. record {
-        plain = p.restarts e keys h.plain;
-        room = c.restarts e keys h.room;
-        wide = subst (λ (s : Sending). 2 ^ 32 ≤ s.bound)
-            (sym (owes_nothing Srb refl e (restarted_sending e.tx keys) h.plain))
-            (anew_wide e.tx keys h.plain.sender.kind_is);
-      };
-    }
+width_of : (kind : PdcpKind) → is_am kind ≡ false → width kind ≡ 2 ^ 32
+width_of Srb off = refl
+width_of (pdcp.Um bits) off = refl
+width_of (pdcp.Am bits) off = absurd cc
 
-begun_queueing : (lcid first : ℕ) (keys : Keys) (side : Side) → first ≤ 2 ^ 32
-    → IsQueueing (begun_pdcp lcid Srb first keys side)
-unfolding begun_pdcp start
-begun_queueing lcid first keys side few = record {
-  plain = begun_plain Srb lcid first keys side;
-  room = omega (arith, few);
-  wide = omega arith;
-}
+module _ (kind : PdcpKind) (off : is_am kind ≡ false) where
+  took_bound : (s : Sending) → IsPlainSender kind s → (took s).bound ≡ s.bound
+  took_bound s h =
+      ap (λ (x : Sending). x.bound) (took_is kind off s h) ∙ new_bound (take (s.bound - s.next) s.waiting) s
+
+  -- no report is for it
+  heard_if : (b : Bool) (e : Ends) (s : Sending) → b ≡ false → (if b then record e { tx = s } else e).tx ≡ e.tx
+  heard_if true e s q = absurd cc
+  heard_if false e s q = refl
+
+  got_sender : (g : Got) (cause : Cause) (e : Ends) → e.kind ≡ kind → (got_left g cause e).tx ≡ e.tx
+  got_sender got_as.Up cause e k = refl
+  got_sender got_as.Stored cause e k = refl
+  got_sender got_as.Old cause e k = refl
+  got_sender got_as.OutOfRange cause e k = refl
+  got_sender (got_as.Integrity found wanted) cause e k = refl
+  got_sender (got_as.Report fms bitmap) cause e k =
+      heard_if (is_for_sender e cause) e (reported e.tx fms bitmap)
+      (ap (λ (b : Bool). b && is_arrived cause) (ap is_am k ∙ off))
+  got_sender (got_as.Unreadable fault) cause e k = refl
+
+  -- what is heard leaves the sender
+  pub heard_sender : (pdu : List ℕ) (cause : Cause) (e : Ends) → e.kind ≡ kind
+      → (after_hearing pdu cause e).tx ≡ e.tx
+  unfolding after_hearing
+  heard_sender pdu cause e k = got_sender (got e.rx pdu cause) cause (with_arrived pdu cause e) k
+
+  -- the bound moves as that of a signalling sender
+  bound_moves : (s : Sending) → s.kind ≡ kind → s.given.entries ≡ [] → s.again ≡ [] → 2 ^ 32 ≤ s.bound
+      → 2 ^ 32 ≤ (moved s).bound
+  bound_moves s k none again h =
+      subst (λ (n : ℕ). 2 ^ 32 ≤ (if s.reporting then s.bound else low s + n)) (sym (ap width k ∙ width_of kind off))
+      (moved_wide (record s { kind = Srb }) refl none again h)
+
+  confirmed_wide : (s : Sending) (place : ℕ) → s.kind ≡ kind → (confirmed s place).given.entries ≡ []
+      → s.again ≡ [] → 2 ^ 32 ≤ s.bound → 2 ^ 32 ≤ (confirmed s place).bound
+  unfolding confirmed
+  confirmed_wide s place k none again h =
+      bound_moves (record s {
+        given = settled (with_ack s.given place);
+        reporting = s.reporting && not (is_own (entry_at s.given place));
+      }) k none again h
+
+  anew_wide : (s : Sending) (keys : Keys) → s.kind ≡ kind → 2 ^ 32 ≤ (restarted_sending s keys).bound
+  unfolding restarted_sending
+  anew_wide s keys k =
+      let most : width s.kind ≡ 2 ^ 32 = ap width k ∙ width_of kind off in
+      omega (arith, most)
+
+  pub queueing_passes : Passes (IsQueueing kind)
+  unfolding after_tick after_taking restarted_pdcp
+  queueing_passes =
+      let p = plain_passes kind off in
+      let c = counts_pass in
+      record {
+        heard = λ pdu cause e h. record {
+          plain = p.heard pdu cause e h.plain;
+          room = c.heard pdu cause e h.room;
+          wide = subst (λ (s : Sending). 2 ^ 32 ≤ s.bound) (sym (heard_sender pdu cause e h.plain.own)) h.wide;
+        };
+        ticked = λ e h. record {
+          plain = p.ticked e h.plain;
+          room = c.ticked e h.room;
+          wide = let same = lates_bound e.tx.waiting (ticked e.tx) in omega (arith, same, h.wide);
+        };
+        taken = λ e h. record {
+          plain = p.taken e h.plain;
+          room = c.taken e h.room;
+          wide = let same = took_bound e.tx h.plain.sender in omega (arith, same, h.wide);
+        };
+        confirms = λ e place h. record {
+          plain = p.confirms e place h.plain;
+          room = c.confirms e place h.room;
+          wide = confirmed_wide e.tx place h.plain.sender.kind_is (p.confirms e place h.plain).sender.none_given
+              h.plain.sender.none_again h.wide;
+        };
+        submits = λ e octets r h. record {
+          plain = p.submits e octets r h.plain;
+          room = c.submits e octets r h.room;
+          wide = let same = submitted_bound e.tx octets in omega (arith, same, h.wide);
+        };
+        discards = λ e ttis h. record {
+          plain = p.discards e ttis h.plain;
+          room = c.discards e ttis h.room;
+          wide = h.wide;
+        };
+        restarts = λ e keys h. record {
+          plain = p.restarts e keys h.plain;
+          room = c.restarts e keys h.room;
+          wide = subst (λ (s : Sending). 2 ^ 32 ≤ s.bound)
+              (sym (owes_nothing kind off e (restarted_sending e.tx keys) h.plain))
+              (anew_wide e.tx keys h.plain.sender.kind_is);
+        };
+      }
+
+  pub begun_queueing : (lcid first : ℕ) (keys : Keys) (side : Side) → first ≤ 2 ^ 32
+      → IsQueueing kind (begun_pdcp lcid kind first keys side)
+  unfolding begun_pdcp start
+  begun_queueing lcid first keys side few =
+      let most = width_of kind off in
+      record {
+        plain = begun_plain kind lcid first keys side;
+        room = omega (arith, few);
+        wide = omega (arith, most);
+      }
+
+  -- RLC may take all that wait
+  pub offers_are : (e : Ends) → IsQueueing kind e → offers e.tx ≡ new_offers e.tx.next e.tx.waiting
+  unfolding offers
+  offers_are e h =
+      let s = e.tx in
+      ap (λ (o : Option (List ℕ)). owed_offers o ++ map again_offer s.again
+      ++ new_offers s.next (take (s.bound - s.next) s.waiting)) h.plain.sender.owes_none
+      ∙ ap (λ (xs : List Sent). map again_offer xs ++ new_offers s.next (take (s.bound - s.next) s.waiting))
+      h.plain.sender.none_again
+      ∙ ap (λ (ws : List Waits). new_offers s.next ws)
+      (take_all (s.bound - s.next) s.waiting (omega (arith, h.room, h.wide)))
 
 pub first_queueing : (c : BearerConfig) (keys : Keys) (side : Side) → c.first ≤ 2 ^ 32
-    → OfPdcp IsQueueing (flow_of kinds.Srb c keys side)
+    → OfPdcp (IsQueueing Srb) (flow_of kinds.Srb c keys side)
 unfolding fresh_am
-first_queueing c keys side few = begun_queueing c.channel.lcid c.first keys side few
+first_queueing c keys side few = begun_queueing Srb refl c.channel.lcid c.first keys side few
 
 -- ---- a call of the bearer
 
-pub call_queueing : (b : State) (c : Call) → IsAccepted b.pdcp.tx c → IsQueueing b.pdcp
-    → IsQueueing (called b c).pdcp
+pub call_queueing : (b : State) (c : Call) → IsAccepted b.pdcp.tx c → IsQueueing Srb b.pdcp
+    → IsQueueing Srb (called b c).pdcp
 unfolding flow_refusal
-call_queueing b c g h = subst (OfPdcp IsQueueing) (is_called b c) (by c g)
+call_queueing b c g h = subst (OfPdcp (IsQueueing Srb)) (is_called b c) (by c g)
   where
-    by : (c : Call) → IsAccepted b.pdcp.tx c → OfPdcp IsQueueing (after (Am b) c)
-    by (Submit sdu) g = submits_of IsQueueing queueing_passes (Am b) sdu g h
-    by (Take share held) g = takes_of IsQueueing queueing_passes (Am b) share held h
-    by (Arrive pdu) g = arrives IsQueueing queueing_passes (Am b) pdu h
-    by (Expire clock) g = expires IsQueueing queueing_passes (Am b) clock h
-    by Tick g = ticks_of IsQueueing queueing_passes (Am b) h
-    by (SetDiscard ttis) g = discards_of IsQueueing queueing_passes (Am b) ttis h
+    by : (c : Call) → IsAccepted b.pdcp.tx c → OfPdcp (IsQueueing Srb) (after (Am b) c)
+    by (Submit sdu) g = submits_of (IsQueueing Srb) (queueing_passes Srb refl) (Am b) sdu g h
+    by (Take share held) g = takes_of (IsQueueing Srb) (queueing_passes Srb refl) (Am b) share held h
+    by (Arrive pdu) g = arrives (IsQueueing Srb) (queueing_passes Srb refl) (Am b) pdu h
+    by (Expire clock) g = expires (IsQueueing Srb) (queueing_passes Srb refl) (Am b) clock h
+    by Tick g = ticks_of (IsQueueing Srb) (queueing_passes Srb refl) (Am b) h
+    by (SetDiscard ttis) g = discards_of (IsQueueing Srb) (queueing_passes Srb refl) (Am b) ttis h
 
 -- ---- what it tells that leaves the queue
 
@@ -255,7 +283,7 @@ called_as b d c is = same_bearer (called b c) d (sym (is_called b c) ∙ is)
 
 -- ---- the queue goes by what is told
 
-pub queue_goes : (l : ℕ) (b d : State) (c : Call) → IsBetween l (Am b) → IsQueueing b.pdcp → after (Am b) c ≡ Am d
+pub queue_goes : (l : ℕ) (b d : State) (c : Call) → IsBetween l (Am b) → IsQueueing Srb b.pdcp → after (Am b) c ≡ Am d
     → length d.pdcp.tx.waiting + left_by_events (tells b c)
     ≡ length b.pdcp.tx.waiting + length (submits c)
 queue_goes l b d c k h is =
@@ -283,7 +311,7 @@ arrivals_leave l b pdu k =
 pub record QueueGoes (l : ℕ) (b : State) (cs : List Call) : Type 0 where
   pub last : State
   pub last_is : after_all (Am b) cs ≡ Am last
-  pub queueing : IsQueueing last.pdcp
+  pub queueing : IsQueueing Srb last.pdcp
   pub count : length last.pdcp.tx.waiting + left_by_events (tells_over l (Am b) cs)
       ≡ length b.pdcp.tx.waiting + length (flat_map submits cs)
 
@@ -291,10 +319,10 @@ left_both : (xs ys : List Event) → left_by_events (xs ++ ys) ≡ left_by_event
 left_both [] ys = omega arith
 left_both (x ∷ xs) ys = let rest = left_both xs ys in omega (arith, rest)
 
-none_go : (l : ℕ) (b : State) → IsQueueing b.pdcp → QueueGoes l b []
+none_go : (l : ℕ) (b : State) → IsQueueing Srb b.pdcp → QueueGoes l b []
 none_go l b h = record { last = b; last_is = refl; queueing = h; count = refl }
 
-then_go : (l : ℕ) (b : State) (c : Call) (cs : List Call) → IsBetween l (Am b) → IsQueueing b.pdcp
+then_go : (l : ℕ) (b : State) (c : Call) (cs : List Call) → IsBetween l (Am b) → IsQueueing Srb b.pdcp
     → QueueGoes l (called b c) cs → QueueGoes l b (c ∷ cs)
 then_go l b c cs k h rest =
     let d = called b c in
@@ -311,7 +339,7 @@ then_go l b c cs k h rest =
       count = omega (arith, one, told, more, both, all, last);
     }
 
-quiet_go : (l : ℕ) (cs : List Call) (b : State) → AllByRecursion IsQuiet cs → IsBetween l (Am b) → IsQueueing b.pdcp
+quiet_go : (l : ℕ) (cs : List Call) (b : State) → AllByRecursion IsQuiet cs → IsBetween l (Am b) → IsQueueing Srb b.pdcp
     → QueueGoes l b cs
 quiet_go l [] b q k h = none_go l b h
 quiet_go l (c ∷ cs) b q k h =
@@ -319,8 +347,8 @@ quiet_go l (c ∷ cs) b q k h =
     (quiet_go l cs (called b c) q.1 (subst (IsBetween l) (is_called b c) (between_after l (Am b) c k))
     (call_queueing b c (quiet_accepted b.pdcp.tx c q.0) h))
 
-pub calls_go : (l : ℕ) (cs : List Call) (b : State) → AreAcceptable (Am b) cs → IsBetween l (Am b) → IsQueueing b.pdcp
-    → QueueGoes l b cs
+pub calls_go : (l : ℕ) (cs : List Call) (b : State) → AreAcceptable (Am b) cs → IsBetween l (Am b)
+    → IsQueueing Srb b.pdcp → QueueGoes l b cs
 unfolding flow_refusal
 calls_go l cs b (inl quiet) k h = quiet_go l cs b quiet k h
 calls_go l cs b (inr one) k h =
@@ -373,15 +401,15 @@ submits_or_tells l f cs (inr one) = inr (ap (tells_over l f) one.calls_are)
 pub record NextQueues (b : State) (keys : Keys) : Type 0 where
   pub next : State
   pub next_is : goes (Am b) (Restart keys) ≡ Am next
-  pub queueing : IsQueueing next.pdcp
+  pub queueing : IsQueueing Srb next.pdcp
   pub none_waits : waits_in (Am next) ≡ []
 
-pub restarts_queueing : (b : State) (keys : Keys) → IsQueueing b.pdcp → NextQueues b keys
+pub restarts_queueing : (b : State) (keys : Keys) → IsQueueing Srb b.pdcp → NextQueues b keys
 unfolding stopped restarted
 restarts_queueing b keys h = record {
   next = am_restarted (am_stopped b) keys;
   next_is = refl;
-  queueing = moves_of IsQueueing queueing_passes (Am b) keys h;
+  queueing = moves_of (IsQueueing Srb) (queueing_passes Srb refl) (Am b) keys h;
   none_waits = none_next (Am b) keys h.plain;
 }
 
@@ -391,14 +419,6 @@ some_new : (n : ℕ) (ws : List Waits) → is_some (slice_get (new_offers n ws) 
 some_new n [] = refl
 some_new n (w ∷ ws) = grind (arith, nat_tests)
 
-pub more_waits : (e : Ends) → IsQueueing e → has_more e ≡ nat_lt 0 (length e.tx.waiting)
-unfolding offers
+pub more_waits : (e : Ends) → IsQueueing Srb e → has_more e ≡ nat_lt 0 (length e.tx.waiting)
 more_waits e h =
-    let s = e.tx in
-    ap (λ (o : Option (List ℕ)). is_some (slice_get (owed_offers o ++ map again_offer s.again
-    ++ new_offers s.next (take (s.bound - s.next) s.waiting)) 0)) h.plain.sender.owes_none
-    ∙ ap (λ (xs : List Sent). is_some (slice_get (map again_offer xs
-    ++ new_offers s.next (take (s.bound - s.next) s.waiting)) 0)) h.plain.sender.none_again
-    ∙ ap (λ (ws : List Waits). is_some (slice_get (new_offers s.next ws) 0))
-    (take_all (s.bound - s.next) s.waiting (omega (arith, h.room, h.wide)))
-    ∙ some_new s.next s.waiting
+    ap (λ (os : List Offer). is_some (slice_get os 0)) (offers_are Srb refl e h) ∙ some_new e.tx.next e.tx.waiting

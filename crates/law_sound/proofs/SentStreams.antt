@@ -67,7 +67,7 @@ pub record IsCovered (bits : ℕ) (p : Protection) (f : Flow) : Type 0 where
   pub cover_is : f.cover ≡ Some (record { kind = pdcp.Am bits; protection = p })
 
 -- PDCP took an SDU of so many octets
-sized : (sdu : List ℕ) → IsSdu sdu → is_sdu sdu ≡ true
+pub sized : (sdu : List ℕ) → IsSdu sdu → is_sdu sdu ≡ true
 sized sdu h =
     and_from (nat_le 1 (length sdu)) (nat_le (length sdu) GREATEST_SDU) (le-leb 1 (length sdu) h.0)
     (le-leb (length sdu) GREATEST_SDU h.1)

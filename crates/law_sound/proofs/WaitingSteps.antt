@@ -15,6 +15,7 @@ use Rattle.bearer_types.specs.Sides.{other}
 use Rattle.l2_types.specs.declared.side.Side.{Side}
 use Rattle.l2_types.specs.declared.side.Side.TheVariants.{Nb, Ue}
 use Rattle.pdcp_pdu.specs.declared.pdu.PdcpKind.{PdcpKind}
+use Rattle.pdcp_pdu.specs.declared.pdu.PdcpKind.TheVariants as pdcp
 use Rattle.pdcp_tx_store.specs.Waiting.{Waits}
 use Rattle.promises.specs.Blocks.{kinds}
 use Rattle.promises.specs.Events.{told_on}
@@ -64,7 +65,7 @@ use Rattle.law_sound.proofs.LoggedEvents.{records_events, events_in}
 pub record IsSignallingAt (l : ℕ) (side : Side) (a : Air) : Type 0 where
   pub bearer : State
   pub bearer_is : flow l (end_at side a) ≡ Am bearer
-  pub queueing : IsQueueing bearer.pdcp
+  pub queueing : IsQueueing pdcp.Srb bearer.pdcp
 
 -- how many SDUs wait there
 abbrev pub waiting_at : ℕ → Side → Air → ℕ
