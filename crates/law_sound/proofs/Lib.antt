@@ -112,6 +112,7 @@ pub mod SentBetween
 pub mod QueueBeside
 pub mod QueueAt
 pub mod QueuePdcp
+pub mod QueueEvents
 pub mod QueueBearers
 pub mod QueueSteps
 pub mod SentPdus

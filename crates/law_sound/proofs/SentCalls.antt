@@ -117,6 +117,10 @@ sent_settles bits b f h = record {
 
 -- ---- a call in which nothing is written
 
+-- all but the stream
+pub streamed : (f : Flow) (x : Sent) → Stays f (record f { stream = x })
+streamed f x = record { layout = refl; cover = refl; waiting = refl; given = refl; floor = refl }
+
 pub protection_stays : (b d : State) (c : Call) → after (Am b) c ≡ Am d → d.pdcp.tx.protection ≡ b.pdcp.tx.protection
 protection_stays b d c e =
     let m = called (Am b) b.pdcp c refl in
@@ -157,9 +161,8 @@ call_base b d c e = base_behind b.tx d.tx (sender_calls b c) (sender_goes_on b d
 pub calls_keep_sent : (bits : ℕ) (b d : State) (c : Call) (f : Flow) → IsQuiet c → after (Am b) c ≡ Am d
     → IsSentBy bits b f → IsSentBy bits d f
 calls_keep_sent bits b d c f q e h =
-    goes_to bits b d f f h
-    (record { layout = refl; cover = refl; waiting = refl; given = refl; floor = refl })
-    (call_runs b d c f.stream q e h.run) (protection_stays b d c e) (call_base b d c e)
+    goes_to bits b d f f h (streamed f f.stream) (call_runs b d c f.stream q e h.run) (protection_stays b d c e)
+    (call_base b d c e)
 
 -- ---- a PDU that is written
 
@@ -173,9 +176,9 @@ RightAs layout acked how passed octets f =
 -- what stays of the flow
 amd_stays : (acked : ℕ → Bool) (how : How) (read : Result AcknowledgedPdu RlcRefusal) (f : Flow)
     → Stays f (judges_amd histories acked how read f).flow
-amd_stays acked hows.New (Ok (Payload pdu)) f = record { layout = refl; cover = refl; waiting = refl; given = refl; floor = refl }
-amd_stays acked hows.Re (Ok (Payload pdu)) f = record { layout = refl; cover = refl; waiting = refl; given = refl; floor = refl }
-amd_stays acked how read f = record { layout = refl; cover = refl; waiting = refl; given = refl; floor = refl }
+amd_stays acked hows.New (Ok (Payload pdu)) f = streamed f _
+amd_stays acked hows.Re (Ok (Payload pdu)) f = streamed f f.stream
+amd_stays acked how read f = streamed f f.stream
 
 one_stays : (kind : PdcpKind) (acked : ℕ → Bool) (p : SentPdu) (f : Flow) → f.layout ≡ layouts.Am kind
     → Stays f (behind_one acked p f)
@@ -185,7 +188,7 @@ one_stays kind acked p f e =
 
 all_stay : (kind : PdcpKind) (acked : ℕ → Bool) (ps : List SentPdu) (f : Flow) → f.layout ≡ layouts.Am kind
     → Stays f (behind_all acked ps f)
-all_stay kind acked [] f e = record { layout = refl; cover = refl; waiting = refl; given = refl; floor = refl }
+all_stay kind acked [] f e = streamed f f.stream
 all_stay kind acked (p ∷ ps) f e =
     let one = one_stays kind acked p f e in
     let rest = all_stay kind acked ps (behind_one acked p f) (one.layout ∙ e) in
