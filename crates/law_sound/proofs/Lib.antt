@@ -113,6 +113,8 @@ pub mod QueueBeside
 pub mod QueueAt
 pub mod QueuePdcp
 pub mod QueueEvents
+pub mod QueueSrb
+pub mod QueueSrbWriting
 pub mod QueueBearers
 pub mod QueueSteps
 pub mod SentPdus

@@ -1,7 +1,7 @@
 -- What events make of a flow whose SDUs wait, while the PDUs of a journal are checked: the most are aside of it, among
 -- them all that a bearer tells as a PDU arrives or a timer expires.
 use Rattle.std.proofs.Common.{◌≡◌, ℕ, ◌==◌, Bool, true, false, if◌then◌else◌, cond, List, [], ◌∷◌, ◌++◌}
-use Rattle.std.proofs.Common.{refl, ap, sym, subst, ◌∙◌}
+use Rattle.std.proofs.Common.{refl, ap, subst, ◌∙◌}
 use Rattle.std.specs.List.{AllByRecursion, flat_map}
 use Rattle.bearer.specs.declared.flow.Flow.{Flow as BearerFlow}
 use Rattle.bearer_types.specs.declared.event.Event.{Event}
