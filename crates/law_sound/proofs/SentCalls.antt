@@ -117,8 +117,8 @@ sent_settles bits b f h = record {
 
 -- ---- a call in which nothing is written
 
--- all but the stream
-pub streamed : (f : Flow) (x : Sent) → Stays f (record f { stream = x })
+-- all but the stream stays
+streamed : (f : Flow) (x : Sent) → Stays f (record f { stream = x })
 streamed f x = record { layout = refl; cover = refl; waiting = refl; given = refl; floor = refl }
 
 pub protection_stays : (b d : State) (c : Call) → after (Am b) c ≡ Am d → d.pdcp.tx.protection ≡ b.pdcp.tx.protection
