@@ -142,7 +142,7 @@ record_leaves kinds more l side (records.Air direction Got heard) j leaves silen
 record_leaves kinds more l side (records.Air direction what heard) j leaves silent = refl
 record_leaves kinds more l side one j leaves silent = refl
 
-both_nil : (xs ys : List Event) → xs ++ ys ≡ [] → (xs ≡ []) × (ys ≡ [])
+pub both_nil : (xs ys : List Event) → xs ++ ys ≡ [] → (xs ≡ []) × (ys ≡ [])
 both_nil [] ys none = (refl, none)
 both_nil (x ∷ xs) ys none = let no : x ∷ (xs ++ ys) ≡ [] = none in absurd cc
 

@@ -140,7 +140,9 @@ pub mod QueueTm
 pub mod QueueUmHearing
 pub mod QueueUm
 pub mod QueueUmLives
+pub mod QueueEvents
 pub mod QueueSrb
+pub mod QueueSrbWriting
 pub mod QueueBearers
 pub mod SentPdus
 pub mod SentJournals

@@ -32,7 +32,8 @@ use Rattle.law_sent.specs.Channels.{SentPdu}
 use Rattle.law_sound.proofs.QueueBeside.{IsQueuedBy, IsTransparentBy, IsUnackedBy, IsSignalledBy, IsTakenIn, KeepsOne}
 use Rattle.law_sound.proofs.QueueBeside.{KeepsSo, WritesSo, CanWrite, ArePdusOf, IsAckedBy, IsBaseLow, AreRightHere}
 use Rattle.law_sound.proofs.QueueBeside.{queue_over, queue_submits}
-use Rattle.law_sound.proofs.QueueSrb.{srb_keeps, srb_writes, srb_begins, srb_restarts, srb_settles}
+use Rattle.law_sound.proofs.QueueSrb.{srb_keeps, srb_begins, srb_restarts, srb_settles}
+use Rattle.law_sound.proofs.QueueSrbWriting.{srb_writes}
 use Rattle.law_sound.proofs.QueueTm.{tm_keeps, tm_writes, tm_restarts}
 use Rattle.law_sound.proofs.QueueUm.{um_keeps, um_writes}
 use Rattle.law_sound.proofs.QueueUmHearing.{queue_then, right_then}

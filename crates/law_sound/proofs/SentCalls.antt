@@ -1,5 +1,5 @@
--- An acknowledged bearer of data and its calls, beside the flow that it sends while the PDUs of a journal are checked:
--- what it writes is right, and so it stands again.
+-- An acknowledged bearer and its calls, beside the flow that it sends while the PDUs of a journal are checked: what it
+-- writes is right, and so, where it is of data, it stands again.
 use Rattle.std.proofs.Common.{◌≡◌, ◌≤◌, ℕ, ◌-◌, Bool, true, false, if◌then◌else◌, List, [], ◌∷◌, ◌++◌, map}
 use Rattle.std.proofs.Common.{Option, Some, None, Result, Ok, Err, refl, ap, sym, subst, ◌∙◌, arith}
 use Rattle.std.specs.List.{AllByRecursion}
@@ -33,7 +33,7 @@ use Rattle.journal_sent.specs.RightSent.{Flow, Sent, IsSdu, PduTest, PduIsSent, 
 use Rattle.journal_sent.specs.RightSent.{AmdIsSent, AmdIsShaped}
 use Rattle.journal_sent.specs.SentFlows.{flow_begun, floored}
 use Rattle.journal_sent.specs.SentFlows.{flow_judges, judges_by, judges_amd}
-use Rattle.journal_sent.specs.SentPdus.{histories}
+use Rattle.journal_sent.specs.SentPdus.{histories, nothing_sent}
 use Rattle.law_account.specs.Accounted.{AreAccounted}
 use Rattle.law_account.specs.History.{Follows}
 use Rattle.law_bearer.specs.AmBearer.Calls.{IsOfData, tells}
@@ -80,20 +80,24 @@ goes_to bits b d f g h s r same le =
       floor_low = omega (arith, low, floor, le);
     }
 
+-- RLC's sender begins with nothing
+pub begun_run : (config : AmTxConfig) → IsRun (start config) (nothing_sent histories)
+begun_run config = record {
+  config = config;
+  calls = [];
+  asked = tt;
+  state_is = refl;
+  streams = record {
+    octets = record { stream_is = refl; fields_are = refl; sent = tt };
+    marks = record { stream_is = refl; fields_are = refl; sent = tt };
+  };
+}
+
 pub sent_begins : (bits : ℕ) (config : AmTxConfig) (b : State) → b.tx ≡ start config
     → IsSentBy bits b (flow_begun histories (layouts.Am (pdcp.Am bits))
     (Some (record { kind = pdcp.Am bits; protection = b.pdcp.tx.protection })))
 sent_begins bits config b e = record {
-  run = record {
-    config = config;
-    calls = [];
-    asked = tt;
-    state_is = sym e;
-    streams = record {
-      octets = record { stream_is = refl; fields_are = refl; sent = tt };
-      marks = record { stream_is = refl; fields_are = refl; sent = tt };
-    };
-  };
+  run = subst (λ (s : Sender). IsRun s (nothing_sent histories)) (sym e) (begun_run config);
   layout_is = refl;
   none_wait = refl;
   cover_is = refl;
@@ -112,6 +116,10 @@ sent_settles bits b f h = record {
 }
 
 -- ---- a call in which nothing is written
+
+-- all but the stream stays
+streamed : (f : Flow) (x : Sent) → Stays f (record f { stream = x })
+streamed f x = record { layout = refl; cover = refl; waiting = refl; given = refl; floor = refl }
 
 pub protection_stays : (b d : State) (c : Call) → after (Am b) c ≡ Am d → d.pdcp.tx.protection ≡ b.pdcp.tx.protection
 protection_stays b d c e =
@@ -141,15 +149,20 @@ quiet_runs b (Expire clock) x q h = h
 quiet_runs b Tick x q h = h
 quiet_runs b (SetDiscard ttis) x q h = h
 
+pub call_runs : (b d : State) (c : Call) (x : Sent) → IsQuiet c → after (Am b) c ≡ Am d → IsRun b.tx x → IsRun d.tx x
+call_runs b d c x q e h =
+    let m = sender_goes_on b d c e in
+    subst (λ (s : Sender). IsRun s x) (sym m.left)
+    (own_runs m.own (sends_on (sender_calls b c) b.tx) x m.are_own (quiet_runs b c x q h))
+
+pub call_base : (b d : State) (c : Call) → after (Am b) c ≡ Am d → b.tx.window.base ≤ d.tx.window.base
+call_base b d c e = base_behind b.tx d.tx (sender_calls b c) (sender_goes_on b d c e)
+
 pub calls_keep_sent : (bits : ℕ) (b d : State) (c : Call) (f : Flow) → IsQuiet c → after (Am b) c ≡ Am d
     → IsSentBy bits b f → IsSentBy bits d f
 calls_keep_sent bits b d c f q e h =
-    let m = sender_goes_on b d c e in
-    let r = quiet_runs b c f.stream q h.run in
-    goes_to bits b d f f h (record { layout = refl; cover = refl; waiting = refl; floor = refl })
-    (subst (λ (s : Sender). IsRun s f.stream) (sym m.left)
-    (own_runs m.own (sends_on (sender_calls b c) b.tx) f.stream m.are_own r))
-    (protection_stays b d c e) (base_behind b.tx d.tx (sender_calls b c) m)
+    goes_to bits b d f f h (streamed f f.stream) (call_runs b d c f.stream q e h.run) (protection_stays b d c e)
+    (call_base b d c e)
 
 -- ---- a PDU that is written
 
@@ -163,9 +176,9 @@ RightAs layout acked how passed octets f =
 -- what stays of the flow
 amd_stays : (acked : ℕ → Bool) (how : How) (read : Result AcknowledgedPdu RlcRefusal) (f : Flow)
     → Stays f (judges_amd histories acked how read f).flow
-amd_stays acked hows.New (Ok (Payload pdu)) f = record { layout = refl; cover = refl; waiting = refl; floor = refl }
-amd_stays acked hows.Re (Ok (Payload pdu)) f = record { layout = refl; cover = refl; waiting = refl; floor = refl }
-amd_stays acked how read f = record { layout = refl; cover = refl; waiting = refl; floor = refl }
+amd_stays acked hows.New (Ok (Payload pdu)) f = streamed f _
+amd_stays acked hows.Re (Ok (Payload pdu)) f = streamed f f.stream
+amd_stays acked how read f = streamed f f.stream
 
 one_stays : (kind : PdcpKind) (acked : ℕ → Bool) (p : SentPdu) (f : Flow) → f.layout ≡ layouts.Am kind
     → Stays f (behind_one acked p f)
@@ -175,7 +188,7 @@ one_stays kind acked p f e =
 
 all_stay : (kind : PdcpKind) (acked : ℕ → Bool) (ps : List SentPdu) (f : Flow) → f.layout ≡ layouts.Am kind
     → Stays f (behind_all acked ps f)
-all_stay kind acked [] f e = record { layout = refl; cover = refl; waiting = refl; floor = refl }
+all_stay kind acked [] f e = streamed f f.stream
 all_stay kind acked (p ∷ ps) f e =
     let one = one_stays kind acked p f e in
     let rest = all_stay kind acked ps (behind_one acked p f) (one.layout ∙ e) in
@@ -183,6 +196,7 @@ all_stay kind acked (p ∷ ps) f e =
       layout = rest.layout ∙ one.layout;
       cover = rest.cover ∙ one.cover;
       waiting = rest.waiting ∙ one.waiting;
+      given = rest.given ∙ one.given;
       floor = rest.floor ∙ one.floor;
     }
 
@@ -225,20 +239,20 @@ status_reads l b share w = (_, (report_reads b.rx (share - 3) (ack b.rx (share -
 abbrev AreOf : List (List ℕ) → List How → List SentPdu → Type 0
 AreOf octets named ps = (map (λ (p : SentPdu). p.octets) ps ≡ octets) × (map (λ (p : SentPdu). p.how) ps ≡ named)
 
-record IsWritten (acked : ℕ → Bool) (t : Taken) (ps : List SentPdu) (f : Flow) : Type 0 where
+record AnswerIsWritten (acked : ℕ → Bool) (t : Taken) (ps : List SentPdu) (f : Flow) : Type 0 where
   right : AreRight Right acked ps f
   passed : Option (List ℕ)
   behind : behind_all acked ps f ≡ behind_answer acked passed t f
 
 none_written : (acked : ℕ → Bool) (t : Taken) (ps : List SentPdu) (f : Flow)
-    → map (λ (p : SentPdu). p.octets) ps ≡ [] → behind_answer acked None t f ≡ f → IsWritten acked t ps f
+    → map (λ (p : SentPdu). p.octets) ps ≡ [] → behind_answer acked None t f ≡ f → AnswerIsWritten acked t ps f
 none_written acked t [] f none same = record { right = tt; passed = None; behind = sym same }
 none_written acked t (p ∷ ps) f none same = absurd cc
 
 one_written : (acked : ℕ → Bool) (number : ℕ) (fresh polled : Bool) (octets : List ℕ) (ps : List SentPdu) (f : Flow)
     → AreOf (octets ∷ []) (how_of fresh ∷ []) ps
     → ((passed : Option (List ℕ)) → AnswerIsRight acked passed (taken.Piece number fresh polled octets) f)
-    → IsWritten acked (taken.Piece number fresh polled octets) ps f
+    → AnswerIsWritten acked (taken.Piece number fresh polled octets) ps f
 one_written acked number fresh polled octets [] f a right = let none = a.0 in absurd cc
 one_written acked number fresh polled octets (p ∷ []) f a right =
     let all = a.0 in
@@ -258,7 +272,7 @@ one_written acked number fresh polled octets (p ∷ []) f a right =
 one_written acked number fresh polled octets (p ∷ q ∷ ps) f a right = let more = a.0 in absurd cc
 
 data_written : (acked : ℕ → Bool) (t : Taken) (ps : List SentPdu) (f : Flow) → AreOf (pdus_of t) (data_hows t) ps
-    → ((passed : Option (List ℕ)) → AnswerIsRight acked passed t f) → IsWritten acked t ps f
+    → ((passed : Option (List ℕ)) → AnswerIsRight acked passed t f) → AnswerIsWritten acked t ps f
 data_written acked (taken.Piece number fresh polled octets) ps f a right =
     one_written acked number fresh polled octets ps f a right
 data_written acked taken.Idle ps f a right = none_written acked taken.Idle ps f a.0 refl
@@ -272,7 +286,7 @@ data_written acked taken.Stopped ps f a right = none_written acked taken.Stopped
 status_then : (kind : PdcpKind) (acked : ℕ → Bool) (due : Bool) (status : List ℕ) (pdu : StatusPdu) (t : Taken)
     (ps : List SentPdu) (f : Flow) → am_at status ≡ Ok (Control pdu) → f.layout ≡ layouts.Am kind
     → AreOf ((if due then status ∷ [] else []) ++ pdus_of t) (status_hows due ++ data_hows t) ps
-    → ((passed : Option (List ℕ)) → AnswerIsRight acked passed t f) → IsWritten acked t ps f
+    → ((passed : Option (List ℕ)) → AnswerIsRight acked passed t f) → AnswerIsWritten acked t ps f
 status_then kind acked false status pdu t ps f read e a right = data_written acked t ps f a right
 status_then kind acked true status pdu t [] f read e a right = let none = a.0 in absurd cc
 status_then kind acked true status pdu t (p ∷ ps) f read e a right =
@@ -292,6 +306,64 @@ status_then kind acked true status pdu t (p ∷ ps) f read e a right =
       passed = more.passed;
       behind = ap (λ (g : Flow). behind_all acked ps g) leaves ∙ more.behind;
     }
+
+-- with the PDUs that RLC is given, of a bearer of any kind
+pub record IsWriting (kind : PdcpKind) (b d : State) (share : ℕ) (held : Option ℕ) (acked : ℕ → Bool)
+    (ps : List SentPdu) (g : Flow) : Type 0 where
+  pub few : share ≤ 9424
+  pub lcid : ℕ
+  pub well : WritesWell lcid (Am b)
+  pub goes : after (Am b) (Take share held) ≡ Am d
+  pub of_call : AreOfCall b share held ps
+  pub layout_is : g.layout ≡ layouts.Am kind
+  pub floor_low : g.floor ≤ b.tx.window.base
+  pub run : IsRun (offered_to b share held) g.stream
+  -- the numbers that are acknowledged, by an account
+  pub most : ℕ
+  pub es : List FlowEvent
+  pub follows : Follows most es b.tx
+  pub acks : (n : ℕ) → acked n ≡ acked_kept n (account_of most es).sending
+
+pub record IsWritten (d : State) (acked : ℕ → Bool) (ps : List SentPdu) (g : Flow) : Type 0 where
+  pub right : AreRight Right acked ps g
+  pub run : IsRun d.tx (behind_all acked ps g).stream
+  pub stays : Stays g (behind_all acked ps g)
+
+pub offered_writes : (kind : PdcpKind) (b d : State) (share : ℕ) (held : Option ℕ) (acked : ℕ → Bool)
+    (ps : List SentPdu) (g : Flow) → IsWriting kind b d share held acked ps g → IsWritten d acked ps g
+offered_writes kind b d share held acked ps g h =
+    let offered = offers_in b share held in
+    let size = data_size b share in
+    let more = has_more_behind b share held in
+    let offers : List SenderCall = map (λ pdu. Offer pdu) offered in
+    let last : List SenderCall = Taking size held more ∷ [] in
+    let few = size_most b share h.few in
+    let tx = offered_to b share held in
+    let window : tx.window ≡ b.tx.window = offers_window offered b.tx in
+    let low = h.floor_low in
+    let base : tx.window.base ≡ b.tx.window.base = ap (λ (w : TxWindow). w.base) window in
+    let opens : IsOpen acked g tx (turn tx size held more) =
+    turn_open h.most h.es tx size held more acked g h.follows.history
+    (subst (λ (w : TxWindow). AreAccounted h.most w (account_of h.most h.es).sending) (sym window) h.follows.window)
+    h.acks (omega (arith, low, base)) in
+    let w = writes_on kind acked tx size held more g (omega (arith, few)) h.layout_is opens h.run in
+    let reads = status_reads h.lcid b share h.well in
+    let x = status_then kind acked (writes_status b.rx share) (status_pdu b.rx share) reads.0
+    (data_given b share held) ps g reads.1 h.layout_is
+    (h.of_call.octets_are ∙ writes_what_rlc_gives b share held, h.of_call.hows_are ∙ take_hows b share held) w.right in
+    let m = sender_goes_on b d (Take share held) h.goes in
+    let u = sender_after tx (Taking size held more) in
+    let left : d.tx ≡ sends_on m.own u = m.left ∙ ap (sends_on m.own) (sends_then b.tx offers last) in
+    let stream : Sent = (behind_answer acked x.passed (data_given b share held) g).stream in
+    let runs : IsRun d.tx stream =
+    subst (λ (t : Sender). IsRun t stream) (sym left) (own_runs m.own u stream m.are_own (w.run x.passed)) in
+    record {
+      right = x.right;
+      run = subst (λ (k : Flow). IsRun d.tx k.stream) (sym x.behind) runs;
+      stays = all_stay kind acked ps g h.layout_is;
+    }
+
+-- ---- of data
 
 pub record CanTake (bits l : ℕ) (rlc : Progress) (b : State) (share : ℕ) (held : Option ℕ) (s : Supply History)
     : Type 0 where
@@ -319,7 +391,6 @@ taken_flow bits l rlc b d share held s f can e h =
     can.known) (subst (λ (n : ℕ). IsOfData n b) (sym can.bits_are) can.of_data)
     (subst (λ (n : ℕ). IsSpelled n b.pdcp.tx.owed) (sym can.bits_are) can.spelled) e can.supplied))
 
--- with the PDUs given
 given_writes : (bits l : ℕ) (rlc : Progress) (b d : State) (share : ℕ) (held : Option ℕ) (s : Supply History) (f : Flow)
     (most : ℕ) (es : List FlowEvent) (acked : ℕ → Bool) (ps : List SentPdu) → CanTake bits l rlc b share held s
     → after (Am b) (Take share held) ≡ Am d → IsSentBy bits b f → Follows most es b.tx
@@ -327,39 +398,31 @@ given_writes : (bits l : ℕ) (rlc : Progress) (b d : State) (share : ℕ) (held
     → AreRight Right acked ps (gives_all (offers_in b share held) f)
     × IsSentBy bits d (behind_all acked ps (gives_all (offers_in b share held) f))
 given_writes bits l rlc b d share held s f most es acked ps can e h follows are of_call =
-    let offered = offers_in b share held in
-    let g = gives_all offered f in
-    let size = data_size b share in
-    let more = has_more_behind b share held in
-    let offers : List SenderCall = map (λ pdu. Offer pdu) offered in
-    let last : List SenderCall = Taking size held more ∷ [] in
-    let few = size_most b share can.few in
-    let tx = offered_to b share held in
-    let window : tx.window ≡ b.tx.window = offers_window offered b.tx in
-    let low = h.floor_low in
-    let base : tx.window.base ≡ b.tx.window.base = ap (λ (w : TxWindow). w.base) window in
-    let opens : IsOpen acked g tx (turn tx size held more) =
-    turn_open most es tx size held more acked g follows.history
-    (subst (λ (w : TxWindow). AreAccounted most w (account_of most es).sending) (sym window) follows.window) are
-    (omega (arith, low, base)) in
-    let w = writes_on (pdcp.Am bits) acked tx size held more g (omega (arith, few)) h.layout_is opens
-    (offers_run offered b.tx f.stream can.some h.run) in
-    let reads = status_reads l b share can.well in
-    let x = status_then (pdcp.Am bits) acked (writes_status b.rx share) (status_pdu b.rx share) reads.0
-    (data_given b share held) ps g reads.1 h.layout_is
-    (of_call.octets_are ∙ writes_what_rlc_gives b share held, of_call.hows_are ∙ take_hows b share held) w.right in
-    let m = sender_goes_on b d (Take share held) e in
-    let u = sender_after tx (Taking size held more) in
-    let left : d.tx ≡ sends_on m.own u = m.left ∙ ap (sends_on m.own) (sends_then b.tx offers last) in
-    let stream : Sent = (behind_answer acked x.passed (data_given b share held) g).stream in
-    let runs : IsRun d.tx stream =
-    subst (λ (t : Sender). IsRun t stream) (sym left) (own_runs m.own u stream m.are_own (w.run x.passed)) in
-    let stays = all_stay (pdcp.Am bits) acked ps g h.layout_is in (
-      x.right,
+    let g = gives_all (offers_in b share held) f in
+    let w = offered_writes (pdcp.Am bits) b d share held acked ps g (record {
+      few = can.few;
+      lcid = l;
+      well = can.well;
+      goes = e;
+      of_call = of_call;
+      layout_is = h.layout_is;
+      floor_low = h.floor_low;
+      run = offers_run (offers_in b share held) b.tx f.stream can.some h.run;
+      most = most;
+      es = es;
+      follows = follows;
+      acks = are;
+    }) in
+    let stays = w.stays in (
+      w.right,
       goes_to bits b d f (behind_all acked ps g) h
-          (record { layout = stays.layout; cover = stays.cover; waiting = stays.waiting; floor = stays.floor })
-          (subst (λ (k : Flow). IsRun d.tx k.stream) (sym x.behind) runs) (protection_stays b d (Take share held) e)
-          (base_behind b.tx d.tx (sender_calls b (Take share held)) m),
+          (record {
+            layout = stays.layout;
+            cover = stays.cover;
+            waiting = stays.waiting;
+            given = stays.given;
+            floor = stays.floor;
+          }) w.run (protection_stays b d (Take share held) e) (call_base b d (Take share held) e),
     )
 
 pub take_writes : (bits l : ℕ) (rlc : Progress) (b d : State) (share : ℕ) (held : Option ℕ) (s : Supply History)

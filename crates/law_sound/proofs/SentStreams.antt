@@ -163,4 +163,5 @@ pub record Stays (f g : Flow) : Type 0 where
   pub layout : g.layout ≡ f.layout
   pub cover : g.cover ≡ f.cover
   pub waiting : g.waiting ≡ f.waiting
+  pub given : g.given ≡ f.given
   pub floor : g.floor ≡ f.floor
