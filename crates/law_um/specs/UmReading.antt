@@ -46,8 +46,8 @@ behind_all (sdu ∷ sdus) r = behind_all sdus (behind (read_by r sdu) r)
 
 -- ---- the laws
 
--- a bearer begins under the protection of what the other side sends, with the COUNT that it is
--- configured with: 0 where none is said
+-- a bearer begins under the protection of what the other side sends, with the first COUNT that it
+-- is configured with
 pub record BeginsToRead (c : BearerConfig) (keys : Keys) (side : Side) : Type 0 where
   pub reads : IsReader c.channel.lcid c.pdcp_bits (fresh c keys side)
   pub reader_is : reader_of c.pdcp_bits (fresh c keys side)
