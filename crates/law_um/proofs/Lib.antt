@@ -9,3 +9,5 @@ pub mod UmLived
 pub mod UmLivedPlaces
 pub mod UmLivedLaws
 pub mod UmLivedOnAir
+pub mod UmReading
+pub mod UmReadingLives

@@ -13,6 +13,8 @@ ghost use Rattle.law_um.specs.UmTimers.{UmBearersGoOnBeside, UmBearersLiveOnBesi
 ghost use Rattle.law_um.specs.UmLived.{UmPairsBegin, UmPairsAreLived, UmPairsLiveOn};
 ghost use Rattle.law_um.specs.UmLived.{UmUpsAreJoined, UmUpsAreTrue, PdusComeInTime};
 ghost use Rattle.law_um.specs.UmLived.{UmChannelsAreLived};
+ghost use Rattle.law_um.specs.UmReading.{UmReadersBegin, UmCallsAreRead, UmLivesAreRead};
+ghost use Rattle.law_um.specs.UmReading.{UmEndsAreRead};
 
 /// They begin alike.
 pub fn um_outset_is_accounted()
@@ -158,4 +160,14 @@ pub fn pdus_come_in_time()
 /// bearers are those of the pair.
 pub fn um_channels_are_lived()
     ensures { UmChannelsAreLived }
+{}
+
+/// What goes up of unacknowledged data at a bearer is what PDCP reads, as a checker of journals asks
+/// it, of the SDUs that RLC hands up: from the outset on, in each call, through a life, and as it
+/// ends, behind which the next one begins with COUNT 0 under other keys.
+pub fn um_ups_are_read()
+    ensures begins { UmReadersBegin }
+    ensures calls { UmCallsAreRead }
+    ensures lives { UmLivesAreRead }
+    ensures ends { UmEndsAreRead }
 {}

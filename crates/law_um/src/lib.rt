@@ -12,5 +12,5 @@ pub use laws::{
     um_bearers_tell_reordering, um_channels_are_lived, um_expiries_are_accounted,
     um_handing_is_accounted, um_lives_are_accounted, um_offers_are_told, um_outset_is_accounted,
     um_pairs_are_lived, um_pairs_begin, um_pairs_live_on, um_pdus_are_told, um_senders_begin,
-    um_ups_are_joined, um_ups_are_true, writing_is_reckoned,
+    um_ups_are_joined, um_ups_are_read, um_ups_are_true, writing_is_reckoned,
 };
