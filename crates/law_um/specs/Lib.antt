@@ -4,3 +4,4 @@ pub mod UmSending
 pub mod UmWriting
 pub mod UmTimers
 pub mod UmLived
+pub mod UmGathered
