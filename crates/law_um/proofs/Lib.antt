@@ -9,3 +9,4 @@ pub mod UmLived
 pub mod UmLivedPlaces
 pub mod UmLivedLaws
 pub mod UmLivedOnAir
+pub mod UmGathered

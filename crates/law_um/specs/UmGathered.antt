@@ -24,7 +24,6 @@ use Rattle.bearer.specs.Unacknowledged.Taking.{feeding, size_in}
 use Rattle.bearer.specs.declared.flow.Flow.TheVariants.{Um}
 use Rattle.promises.specs.Events.{is_on, told_on}
 use Rattle.journal_account.specs.FlowEvents.{FlowEvent, SduTaken, next_of}
-use Rattle.journal_um.specs.declared.pieces.Piece.{Piece}
 use Rattle.journal_um.specs.UmEvents.{UmLifeEvent}
 use Rattle.journal_flows.specs.declared.parcels.Parcel.{Parcel}
 use Rattle.journal_flows.specs.declared.parcels.Parcel.TheVariants.{Pieces}
