@@ -10,3 +10,4 @@ pub mod UmLivedPlaces
 pub mod UmLivedLaws
 pub mod UmLivedOnAir
 pub mod UmGathered
+pub mod UmGatheredBearers

@@ -1,0 +1,252 @@
+-- What an unacknowledged bearer tells in a call is of its channel, and RLC takes what it tells of.
+use Rattle.std.proofs.Common.{◌≡◌, ℕ, zero, suc, ◌+◌, ◌%◌, ◌^◌, ◌/◌, ◌*◌, ◌-◌, ◌≤◌, ◌==◌, Bool, true, false}
+use Rattle.std.proofs.Common.{if◌then◌else◌, List, [], ◌∷◌, ◌++◌, map, take, drop, length, length-append, Option, Some}
+use Rattle.std.proofs.Common.{None, IfSome, option_map, slice_get, unwrap_or, append-nil, append_assoc, refl, ap, sym}
+use Rattle.std.proofs.Common.{subst, ◌∙◌, arith}
+use Rattle.std.specs.List.{AllByRecursion, flat_map}
+use Rattle.std.proofs.lemmas.Bool.Decides.{nat_tests}
+use Rattle.std.proofs.lemmas.Grind.{flat_map-append}
+use Rattle.eps_sec.specs.declared.Keys.{Keys}
+use Rattle.l2_types.specs.declared.Kind.TheVariants as kinds
+use Rattle.l2_types.specs.declared.event.Clock.{Clock}
+use Rattle.l2_types.specs.declared.event.Waits.{Waits}
+use Rattle.bearer_types.specs.declared.event.Event.{Event}
+use Rattle.bearer_types.specs.declared.event.Event.TheVariants as events
+use Rattle.pdcp_pdu.specs.declared.pdu.PdcpKind.{PdcpKind}
+use Rattle.pdcp_pdu.specs.declared.pdu.PdcpKind.TheVariants as pdcp
+use Rattle.pdcp_pdu.specs.Grammar.{data_header}
+use Rattle.pdcp_sec.specs.Protection.{Protection, ciphered_with}
+use Rattle.pdcp_sec.proofs.Lengths.{length_ciphered_with}
+use Rattle.pdcp_tx.specs.Pdus.{pdu}
+use Rattle.pdcp_tx.specs.Runs.{Submit as Submits, Take as Takes, Confirm, Report, Owe, Tick as Ticks, Late}
+use Rattle.pdcp_tx.specs.State.{State as Sending, Offer, offers, written, again_offer, new_offers, taking as pdcp_taking}
+use Rattle.pdcp_tx.specs.State.{submitted as pdcp_submitted, took, took_owed, took_again, took_new, confirmed, reported}
+use Rattle.pdcp_tx.specs.State.{reported_from, fms_count, after_late, restarted as restarted_sending, start}
+use Rattle.rlc_pdu.specs.declared.outcome.Taken.{Taken}
+use Rattle.rlc_pdu.specs.declared.outcome.Taken.TheVariants as answers
+use Rattle.rlc_um.specs.Sender.{is_hungry, taken as rlc_taken}
+use Rattle.bearer_pdcp.specs.Ends.{Ends, begun}
+use Rattle.bearer_pdcp.specs.Lives.{restarted as restarted_pdcp}
+use Rattle.bearer_pdcp.specs.Taking.{taking_told, next_told, after_taking as after_pdcp}
+use Rattle.bearer.specs.Bearer.{flow_of}
+use Rattle.bearer.specs.Hearing.{expiry}
+use Rattle.bearer.specs.Lives.{stopped as stopped_flow, restarted as restarted_flow}
+use Rattle.bearer.specs.Taking.{told, after as taken_from}
+use Rattle.bearer.specs.Unacknowledged.Lives.{stopped, restarted}
+use Rattle.bearer.specs.Unacknowledged.State.{State, fresh}
+use Rattle.bearer.specs.Unacknowledged.Taking.{Feeding, fed, feeds, feeding, size_in, has_more, why_idle, idle_told}
+use Rattle.bearer.specs.Unacknowledged.Taking.{data_told, taking, after_taking}
+use Rattle.bearer.specs.declared.flow.Flow.{Flow}
+use Rattle.bearer.specs.declared.flow.Flow.TheVariants.{Um}
+use Rattle.promises.specs.Events.{is_on, told_on}
+use Rattle.law_pdcp.specs.OneEnd.Lives.{Step, Calls, SetDiscard as SetsDiscard, Restart, goes, run_pdcp_sender}
+use Rattle.law_bearer.specs.AnyBearer.Calls.{Call, Submit, Take, Arrive, Expire, Tick, SetDiscard, after, ends}
+use Rattle.law_bearer.specs.AnyBearer.Stream.{takes, pdu_of as pdcp_pdu}
+use Rattle.law_bearer.proofs.AnyBearer.Between.{IsBetween, begins, submits, discards, takes as takes_between, arrives}
+use Rattle.law_bearer.proofs.AnyBearer.Between.{expires, ticks_of, moves}
+use Rattle.law_bearer.proofs.AnyBearer.Flows.{taken_off, called as passes}
+use Rattle.law_bearer.proofs.AnyBearer.Parts.{pdcp_took}
+use Rattle.law_bearer.proofs.AnyBearer.Sender.{AreSame, IsOfLife, AreOfLife, moved_same, same_pdus, took_same, left_of}
+use Rattle.law_bearer.proofs.AnyBearer.Told.{told_in_order}
+use Rattle.law_bearer.proofs.AnyBearer.Unacknowledged.{take_left, stop_ends, restart_is}
+use Rattle.law_deliver.proofs.AmFlow.Events.{OfWriting, block_holds, OfHearing, pdu_holds, expiry_holds, tti_holds}
+use Rattle.law_deliver.proofs.AmFlow.Events.{all_on}
+use Rattle.law_deliver.proofs.UmFlow.Sending.{is_called}
+use Rattle.law_deliver.specs.AmFlow.Reordering.{reordering_in}
+use Rattle.law_deliver.specs.AmFlow.Ups.{tells_in}
+use Rattle.law_deliver.specs.UmFlow.Pair.{called}
+use Rattle.law_um.specs.UmGathered.{IsUmOn, UmBearersComeOn, UmBearersGoOn, UmBearersLiveOn, sizes_told, sizes_in}
+use Rattle.law_um.specs.UmGathered.{given_in, TellsOwn, UmBearersTellOwn}
+use Rattle.law_um.proofs.UmTimers.{um_bearers_tell_reordering}
+
+-- ---- a bearer between calls
+
+between : (l bits : ℕ) (b : State) → IsUmOn l bits b → IsBetween l (Um b)
+between l bits b h = record { own = h.own; empty = h.idle }
+
+called_between : (l : ℕ) (f : Flow) (c : Call) → IsBetween l f → IsBetween l (after f c)
+called_between l f (Submit sdu) k = submits l f sdu k
+called_between l f (Take share held) k = takes_between l f share held k
+called_between l f (Arrive octets) k = arrives l f octets k
+called_between l f (Expire clock) k = expires l f clock k
+called_between l f Tick k = ticks_of l f k
+called_between l f (SetDiscard ttis) k = discards l f ttis k
+
+-- ---- no report is owed, as long as none comes to be
+
+new_owed : (s : Sending) (n : ℕ) → (took_new (take n s.waiting) s).owed ≡ s.owed
+new_owed s n = by (take n s.waiting)
+  where
+    by : (ws : _) → (took_new ws s).owed ≡ s.owed
+    by [] = refl
+    by (w ∷ ws) = refl
+
+took_owes : (s : Sending) → s.owed ≡ None → (took s).owed ≡ None
+unfolding took
+took_owes s none = ap (λ (o : Option (List ℕ)). (took_owed o s).owed) none ∙ by s.again ∙ none
+  where
+    by : (xs : _) → (took_again xs s).owed ≡ s.owed
+    by [] = new_owed s (s.bound - s.next)
+    by (x ∷ xs) = refl
+
+report_owes : (o : Option ℕ) (s : Sending) (bitmap : List ℕ) → (reported_from o s bitmap).owed ≡ s.owed
+report_owes None s bitmap = refl
+report_owes (Some from) s bitmap = refl
+
+step_owes : (s : Sending) (x : Step) → IsOfLife x → s.owed ≡ None → (goes s x).owed ≡ None
+unfolding pdcp_submitted confirmed reported after_late
+step_owes s (Calls (Submits sdu)) h none = none
+step_owes s (Calls Takes) h none = took_owes s none
+step_owes s (Calls (Confirm place)) h none = none
+step_owes s (Calls (Report fms bitmap)) h none = report_owes (fms_count s.kind s.base fms) s bitmap ∙ none
+step_owes s (Calls (Owe report)) h none = absurd h
+step_owes s (Calls Ticks) h none = none
+step_owes s (Calls Late) h none = none
+step_owes s (SetsDiscard ttis) h none = none
+step_owes s (Restart keys) h none = absurd h
+
+run_owes : (s : Sending) (xs : List Step) → AreOfLife xs → s.owed ≡ None → (run_pdcp_sender xs s).owed ≡ None
+run_owes s [] h none = none
+run_owes s (x ∷ xs) h none = run_owes (goes s x) xs h.1 (step_owes s x h.0 none)
+
+-- ---- a bearer of the channel stays one
+
+pub um_bearers_come_on : UmBearersComeOn
+unfolding fresh begun start
+um_bearers_come_on c keys side =
+    let k = begins kinds.Um c keys side in
+    record { own = k.own; idle = k.empty; kind = refl; sending = refl; owes_none = refl }
+
+pub um_bearers_go_on : UmBearersGoOn
+um_bearers_go_on l bits b c h =
+    let one = passes (Um b) b.pdcp c refl in
+    let moved = one.passed.tx in
+    let k = subst (IsBetween l) (is_called b c) (called_between l (Um b) c (between l bits b h)) in
+    let some : Some (called b c).pdcp ≡ Some one.next = ap ends (sym (is_called b c)) ∙ one.is in
+    let same : (called b c).pdcp ≡ one.next = cc in
+    record {
+      own = k.own;
+      idle = k.empty;
+      kind = ap (λ (e : Ends). e.kind) same ∙ one.passed.kind ∙ h.kind;
+      sending = ap (λ (e : Ends). e.tx.kind) same ∙ (moved_same b.pdcp.tx one.next.tx _ moved).kind ∙ h.sending;
+      owes_none = ap (λ (e : Ends). e.tx.owed) same ∙ ap (λ (s : Sending). s.owed) moved.left
+          ∙ run_owes b.pdcp.tx moved.steps moved.life h.owes_none;
+    }
+
+next_life : (e : Ends) (keys : Keys) (bits : ℕ) → e.kind ≡ pdcp.Um bits → e.tx.kind ≡ pdcp.Um bits
+    → ((restarted_pdcp e keys).kind ≡ pdcp.Um bits) × ((restarted_pdcp e keys).tx.kind ≡ pdcp.Um bits)
+    × ((restarted_pdcp e keys).tx.owed ≡ None)
+unfolding restarted_pdcp restarted_sending
+next_life e keys bits kind sending = (kind, rw kind sending, rw kind refl)
+
+moves_between : (l : ℕ) (b : State) (keys : Keys) → IsBetween l (Um b) → IsBetween l (Um (restarted (stopped b) keys))
+unfolding restarted_flow stopped_flow
+moves_between l b keys k = moves l (Um b) keys k
+
+pub um_bearers_live_on : UmBearersLiveOn
+um_bearers_live_on l bits b keys h =
+    let k = moves_between l b keys (between l bits b h) in
+    let ended = stop_ends b in
+    let next = next_life (stopped b).pdcp keys bits (ended.kind ∙ h.kind)
+    (ap (λ (s : Sending). s.kind) ended.tx ∙ h.sending) in
+    let is = restart_is b keys in
+    record {
+      own = k.own;
+      idle = k.empty;
+      kind = ap (λ (e : Ends). e.kind) is ∙ next.0;
+      sending = ap (λ (e : Ends). e.tx.kind) is ∙ next.1;
+      owes_none = ap (λ (e : Ends). e.tx.owed) is ∙ next.2;
+    }
+
+-- ---- what it tells is of its channel
+
+-- and it takes no SDU
+abbrev IsQuiet : ℕ → ℕ → Event → Type 0
+IsQuiet bits m e = (is_on m e ≡ true) × (sizes_told bits e ≡ [])
+
+same_on : (m : ℕ) → (m == m) ≡ true
+same_on m = grind (arith, nat_tests)
+
+writing_on : (m : ℕ) → OfWriting (λ e. is_on m e ≡ true) m
+writing_on m =
+    let s = same_on m in
+    record {
+      send = λ way sn. s;
+      start = λ clock. s;
+      report = λ fms bitmap. s;
+      take = λ count len. s;
+      wait = λ why. s;
+    }
+
+hearing_quiet : (bits m : ℕ) → OfHearing (IsQuiet bits m) m
+hearing_quiet bits m =
+    let s = same_on m in
+    record {
+      start = λ clock. (s, refl);
+      stop = λ clock. (s, refl);
+      expired = λ clock. (s, refl);
+      up = λ sdu. (s, refl);
+      fail = λ sn. (s, refl);
+      drop = λ why own. (s, refl);
+      integrity = λ found wanted. (s, refl);
+      bad_rlc = λ fault. (s, refl);
+      bad_pdcp = λ fault. (s, refl);
+    }
+
+quiet_told : (bits m : ℕ) (told' : List Event) → AllByRecursion (IsQuiet bits m) told'
+    → (told_on m told' ≡ told') × (sizes_in bits told' ≡ [])
+quiet_told bits m told' h = (all_on m told' (ons told' h), none told' h)
+  where
+    ons : (xs : List Event) → AllByRecursion (IsQuiet bits m) xs → AllByRecursion (λ e. is_on m e ≡ true) xs
+    ons [] p = tt
+    ons (x ∷ xs) p = (p.0.0, ons xs p.1)
+
+    none : (xs : List Event) → AllByRecursion (IsQuiet bits m) xs → sizes_in bits xs ≡ []
+    none [] p = refl
+    none (x ∷ xs) p = ap (λ (ns : List ℕ). ns ++ sizes_in bits xs) p.0.1 ∙ none xs p.1
+
+some_told : (P Q : List Event → Type 0) (o : Option (List Event)) → IfSome o P
+    → ((told' : List Event) → P told' → Q told') → Q [] → Q (unwrap_or o [])
+some_told P Q None p then' none = none
+some_told P Q (Some told') p then' none = then' told' p
+
+expiry_quiet : (bits m : ℕ) (f : Flow) (clock : Clock) → IsBetween m f
+    → AllByRecursion (IsQuiet bits m) (unwrap_or (expiry f clock) [])
+expiry_quiet bits m f clock k =
+    some_told _ (AllByRecursion (IsQuiet bits m)) (expiry f clock) ((told_in_order m f k).expiring clock)
+    (λ told' p. expiry_holds (IsQuiet bits m) m (hearing_quiet bits m) clock told' p) tt
+
+-- ---- RLC takes a PDU of PDCP, which is as long as is told
+
+header_size : (bits sn : ℕ) → length (data_header bits 0 sn) ≡ (if bits == 7 then 1 else 2)
+header_size bits sn = by (bits == 7) (bits == 12)
+  where
+    by : (short middle : Bool)
+        → length (if short then (128 + sn) ∷ [] else if middle then (128 + 0 * 16 + sn / 256) ∷ (sn % 256) ∷ []
+        else (128 + sn / 256) ∷ (sn % 256) ∷ []) ≡ (if short then 1 else 2)
+    by true middle = refl
+    by false true = refl
+    by false false = refl
+
+pdu_size : (bits : ℕ) (p : Protection) (count : ℕ) (text : List ℕ)
+    → length (pdu (pdcp.Um bits) p count text) ≡ length text + (if bits == 7 then 1 else 2)
+unfolding pdu
+pdu_size bits p count text =
+    let header = header_size bits (count % 2 ^ bits) in
+    let all = length-append (data_header bits 0 (count % 2 ^ bits)) (ciphered_with p count text) in
+    omega (arith, all, header, length_ciphered_with p count text)
+
+-- it may take only SDUs
+record IsSdu (o : Offer) : Type 0 where
+  count : ℕ
+  is : o.count ≡ Some count
+
+first_of : (s : Sending) (again : _) (n : ℕ) (news : _) (o : Offer) (os : List Offer)
+    → map again_offer again ++ new_offers n news ≡ o ∷ os → IsSdu o
+first_of s [] n [] o os e = absurd cc
+first_of s [] n (w ∷ ws) o os e =
+    let is : record { count = Some n; text = w.sdu } ≡ o = cc in
+    record { count = n; is = ap (λ (x : Offer). x.count) (sym is) }
+first_of s (x ∷ xs) n news o os e =
+    let is : again_offer x ≡ o = cc in
+    record { count = x.count; is = ap (λ (y : Offer). y.count) (sym is) }
