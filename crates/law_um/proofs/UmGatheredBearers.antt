@@ -3,7 +3,7 @@ use Rattle.std.proofs.Common.{◌≡◌, ℕ, zero, suc, ◌+◌, ◌%◌, ◌^�
 use Rattle.std.proofs.Common.{if◌then◌else◌, List, [], ◌∷◌, ◌++◌, map, take, drop, length, length-append, Option, Some}
 use Rattle.std.proofs.Common.{None, IfSome, option_map, slice_get, unwrap_or, append-nil, append_assoc, refl, ap, sym}
 use Rattle.std.proofs.Common.{subst, ◌∙◌, arith}
-use Rattle.std.specs.List.{AllByRecursion, flat_map}
+use Rattle.std.specs.List.{AllByRecursion}
 use Rattle.std.proofs.lemmas.Bool.Decides.{nat_tests}
 use Rattle.std.proofs.lemmas.Grind.{flat_map-append}
 use Rattle.eps_sec.specs.declared.Keys.{Keys}
@@ -11,7 +11,6 @@ use Rattle.l2_types.specs.declared.Kind.TheVariants as kinds
 use Rattle.l2_types.specs.declared.event.Clock.{Clock}
 use Rattle.l2_types.specs.declared.event.Waits.{Waits}
 use Rattle.bearer_types.specs.declared.event.Event.{Event}
-use Rattle.bearer_types.specs.declared.event.Event.TheVariants as events
 use Rattle.pdcp_pdu.specs.declared.pdu.PdcpKind.{PdcpKind}
 use Rattle.pdcp_pdu.specs.declared.pdu.PdcpKind.TheVariants as pdcp
 use Rattle.pdcp_pdu.specs.Grammar.{data_header}
@@ -19,8 +18,8 @@ use Rattle.pdcp_sec.specs.Protection.{Protection, ciphered_with}
 use Rattle.pdcp_sec.proofs.Lengths.{length_ciphered_with}
 use Rattle.pdcp_tx.specs.Pdus.{pdu}
 use Rattle.pdcp_tx.specs.Runs.{Submit as Submits, Take as Takes, Confirm, Report, Owe, Tick as Ticks, Late}
-use Rattle.pdcp_tx.specs.State.{State as Sending, Offer, offers, written, again_offer, new_offers, taking as pdcp_taking}
-use Rattle.pdcp_tx.specs.State.{submitted as pdcp_submitted, took, took_owed, took_again, took_new, confirmed, reported}
+use Rattle.pdcp_tx.specs.State.{State as Sending, Offer, offers, written, owed_offers, again_offer, new_offers}
+use Rattle.pdcp_tx.specs.State.{taking as pdcp_taking, submitted as pdcp_submitted, took, took_owed, took_again, took_new, confirmed, reported}
 use Rattle.pdcp_tx.specs.State.{reported_from, fms_count, after_late, restarted as restarted_sending, start}
 use Rattle.rlc_pdu.specs.declared.outcome.Taken.{Taken}
 use Rattle.rlc_pdu.specs.declared.outcome.Taken.TheVariants as answers
@@ -28,7 +27,6 @@ use Rattle.rlc_um.specs.Sender.{is_hungry, taken as rlc_taken}
 use Rattle.bearer_pdcp.specs.Ends.{Ends, begun}
 use Rattle.bearer_pdcp.specs.Lives.{restarted as restarted_pdcp}
 use Rattle.bearer_pdcp.specs.Taking.{taking_told, next_told, after_taking as after_pdcp}
-use Rattle.bearer.specs.Bearer.{flow_of}
 use Rattle.bearer.specs.Hearing.{expiry}
 use Rattle.bearer.specs.Lives.{stopped as stopped_flow, restarted as restarted_flow}
 use Rattle.bearer.specs.Taking.{told, after as taken_from}
@@ -41,12 +39,12 @@ use Rattle.bearer.specs.declared.flow.Flow.TheVariants.{Um}
 use Rattle.promises.specs.Events.{is_on, told_on}
 use Rattle.law_pdcp.specs.OneEnd.Lives.{Step, Calls, SetDiscard as SetsDiscard, Restart, goes, run_pdcp_sender}
 use Rattle.law_bearer.specs.AnyBearer.Calls.{Call, Submit, Take, Arrive, Expire, Tick, SetDiscard, after, ends}
-use Rattle.law_bearer.specs.AnyBearer.Stream.{takes, pdu_of as pdcp_pdu}
+use Rattle.law_bearer.specs.AnyBearer.Stream.{pdu_of as pdcp_pdu}
 use Rattle.law_bearer.proofs.AnyBearer.Between.{IsBetween, begins, submits, discards, takes as takes_between, arrives}
 use Rattle.law_bearer.proofs.AnyBearer.Between.{expires, ticks_of, moves}
 use Rattle.law_bearer.proofs.AnyBearer.Flows.{taken_off, called as passes}
 use Rattle.law_bearer.proofs.AnyBearer.Parts.{pdcp_took}
-use Rattle.law_bearer.proofs.AnyBearer.Sender.{AreSame, IsOfLife, AreOfLife, moved_same, same_pdus, took_same, left_of}
+use Rattle.law_bearer.proofs.AnyBearer.Sender.{IsOfLife, AreOfLife, moved_same, same_pdus, took_same, left_of}
 use Rattle.law_bearer.proofs.AnyBearer.Told.{told_in_order}
 use Rattle.law_bearer.proofs.AnyBearer.Unacknowledged.{take_left, stop_ends, restart_is}
 use Rattle.law_deliver.proofs.AmFlow.Events.{OfWriting, block_holds, OfHearing, pdu_holds, expiry_holds, tti_holds}
@@ -56,7 +54,7 @@ use Rattle.law_deliver.specs.AmFlow.Reordering.{reordering_in}
 use Rattle.law_deliver.specs.AmFlow.Ups.{tells_in}
 use Rattle.law_deliver.specs.UmFlow.Pair.{called}
 use Rattle.law_um.specs.UmGathered.{IsUmOn, UmBearersComeOn, UmBearersGoOn, UmBearersLiveOn, sizes_told, sizes_in}
-use Rattle.law_um.specs.UmGathered.{given_in, TellsOwn, UmBearersTellOwn}
+use Rattle.law_um.specs.UmGathered.{given_in, UmBearersTellOwn}
 use Rattle.law_um.proofs.UmTimers.{um_bearers_tell_reordering}
 
 -- ---- a bearer between calls
@@ -241,12 +239,183 @@ record IsSdu (o : Offer) : Type 0 where
   count : ℕ
   is : o.count ≡ Some count
 
-first_of : (s : Sending) (again : _) (n : ℕ) (news : _) (o : Offer) (os : List Offer)
+first_of : (again : _) (n : ℕ) (news : _) (o : Offer) (os : List Offer)
     → map again_offer again ++ new_offers n news ≡ o ∷ os → IsSdu o
-first_of s [] n [] o os e = absurd cc
-first_of s [] n (w ∷ ws) o os e =
+first_of [] n [] o os e = absurd cc
+first_of [] n (w ∷ ws) o os e =
     let is : record { count = Some n; text = w.sdu } ≡ o = cc in
     record { count = n; is = ap (λ (x : Offer). x.count) (sym is) }
-first_of s (x ∷ xs) n news o os e =
+first_of (x ∷ xs) n news o os e =
     let is : again_offer x ≡ o = cc in
     record { count = x.count; is = ap (λ (y : Offer). y.count) (sym is) }
+
+first_is_sdu : (s : Sending) (o : Offer) (os : List Offer) → s.owed ≡ None → offers s ≡ o ∷ os → IsSdu o
+unfolding offers
+first_is_sdu s o os none e =
+    let plain : map again_offer s.again ++ new_offers s.next (take (s.bound - s.next) s.waiting) ≡ o ∷ os =
+    sym (ap (λ (r : Option (List ℕ)). owed_offers r ++ map again_offer s.again
+    ++ new_offers s.next (take (s.bound - s.next) s.waiting)) none) ∙ e in
+    first_of s.again s.next (take (s.bound - s.next) s.waiting) o os plain
+
+record Gives (bits : ℕ) (e : Ends) : Type 0 where
+  sending : e.tx.kind ≡ pdcp.Um bits
+  owes_none : e.tx.owed ≡ None
+
+gives_on : (bits : ℕ) (e : Ends) → Gives bits e → Gives bits (after_pdcp e)
+gives_on bits e h = record {
+  sending = ap (λ (s : Sending). s.kind) (pdcp_took e) ∙ (took_same e.tx).kind ∙ h.sending;
+  owes_none = ap (λ (s : Sending). s.owed) (pdcp_took e) ∙ took_owes e.tx h.owes_none;
+}
+
+sdu_told : (bits lcid : ℕ) (kind own : PdcpKind) (p : Protection) (o : Offer) → own ≡ pdcp.Um bits → IsSdu o
+    → sizes_in bits (next_told lcid kind (Some (written own p o.count o.text)))
+    ≡ length (written own p o.count o.text).octets ∷ []
+sdu_told bits lcid kind own p o is sdu =
+    subst (λ (k : PdcpKind). sizes_in bits (next_told lcid kind (Some (written k p o.count o.text)))
+    ≡ length (written k p o.count o.text).octets ∷ []) (sym is)
+    (subst (λ (c : Option ℕ). sizes_in bits (next_told lcid kind (Some (written (pdcp.Um bits) p c o.text)))
+    ≡ length (written (pdcp.Um bits) p c o.text).octets ∷ []) (sym sdu.is)
+    (ap (λ (n : ℕ). n ∷ []) (sym (pdu_size bits p sdu.count o.text))))
+
+one_told : (bits : ℕ) (e : Ends) (o : Offer) (os : List Offer) → Gives bits e → offers e.tx ≡ o ∷ os
+    → sizes_in bits (taking_told e) ≡ length (pdcp_pdu e.tx o) ∷ []
+unfolding taking_told pdcp_taking
+one_told bits e o os h q =
+    ap (λ (l : List Offer). sizes_in bits (next_told e.lcid e.kind
+    (option_map (λ (x : Offer). written e.tx.kind e.tx.protection x.count x.text) (slice_get l 0)))) q
+    ∙ sdu_told bits e.lcid e.kind e.tx.kind e.tx.protection o h.sending (first_is_sdu e.tx o os h.owes_none q)
+
+-- ---- as long as RLC is hungry
+
+sizes_both : (bits : ℕ) (xs ys : List Event) → sizes_in bits (xs ++ ys) ≡ sizes_in bits xs ++ sizes_in bits ys
+sizes_both bits xs ys = flat_map-append (sizes_told bits) xs ys
+
+-- so many are taken, and told
+record Fed (bits : ℕ) (os : List Offer) (w v : Feeding) : Type 0 where
+  many : ℕ
+  few : many ≤ length os
+  left : offers v.pdcp.tx ≡ drop many os
+  told_is : sizes_in bits v.events
+      ≡ sizes_in bits w.events ++ map length (map (pdcp_pdu w.pdcp.tx) (take many os))
+
+none_fed : (bits : ℕ) (os : List Offer) (w : Feeding) → offers w.pdcp.tx ≡ os → Fed bits os w w
+none_fed bits os w q = record {
+  many = zero;
+  few = omega arith;
+  left = q;
+  told_is = sym (append-nil (sizes_in bits w.events));
+}
+
+one_fed : (bits : ℕ) (o : Offer) (os : List Offer) (w v : Feeding) → Gives bits w.pdcp → offers w.pdcp.tx ≡ o ∷ os
+    → Fed bits os (fed w) v → Fed bits (o ∷ os) w v
+one_fed bits o os w v h q f =
+    let before = sizes_in bits w.events in
+    let own = length (pdcp_pdu w.pdcp.tx o) in
+    let more : List Offer = take f.many os in
+    record {
+      many = suc f.many;
+      few = omega (arith, f.few);
+      left = f.left;
+      told_is =
+          f.told_is
+          ∙ ap (λ (ns : List ℕ). ns ++ map length (map (pdcp_pdu (fed w).pdcp.tx) more))
+          (sizes_both bits w.events (taking_told w.pdcp)
+          ∙ ap (λ (ns : List ℕ). before ++ ns) (one_told bits w.pdcp o os h q))
+          ∙ ap (λ (ls : List (List ℕ)). (before ++ own ∷ []) ++ map length ls)
+          (ap (λ (s : Sending). map (pdcp_pdu s) more) (pdcp_took w.pdcp)
+          ∙ same_pdus w.pdcp.tx (took w.pdcp.tx) more (took_same w.pdcp.tx))
+          ∙ append_assoc before (own ∷ []) (map length (map (pdcp_pdu w.pdcp.tx) more));
+    }
+
+all_fed : (bits : ℕ) (os : List Offer) (size : ℕ) (held : Option ℕ) (w : Feeding) → Gives bits w.pdcp
+    → offers w.pdcp.tx ≡ os → Fed bits os w (feeds os size held w)
+all_fed bits [] size held w h q = none_fed bits [] w q
+all_fed bits (o ∷ os) size held w h q =
+    by (is_hungry w.tx size held)
+    (all_fed bits os size held (fed w) (gives_on bits w.pdcp h)
+    (ap offers (pdcp_took w.pdcp) ∙ left_of 1 w.pdcp.tx ∙ ap (drop 1) q))
+  where
+    by : (hungry : Bool) → Fed bits os (fed w) (feeds os size held (fed w))
+        → Fed bits (o ∷ os) w (if hungry then feeds os size held (fed w) else w)
+    by true f = one_fed bits o os w (feeds os size held (fed w)) h q f
+    by false f = none_fed bits (o ∷ os) w q
+
+-- ---- what is told of the PDU that is written
+
+idle_quiet : (bits lcid : ℕ) (more : Bool) (why : Waits) → sizes_in bits (idle_told lcid more why) ≡ []
+idle_quiet bits lcid true why = refl
+idle_quiet bits lcid false why = refl
+
+data_quiet : (bits lcid rlc_bits : ℕ) (more : Bool) (why : Waits) (t : Taken)
+    → sizes_in bits (data_told lcid rlc_bits more why t) ≡ []
+data_quiet bits lcid rlc more why (answers.Piece number first polled octets) = refl
+data_quiet bits lcid rlc more why answers.Idle = idle_quiet bits lcid more why
+data_quiet bits lcid rlc more why answers.Small = refl
+data_quiet bits lcid rlc more why answers.Shut = refl
+data_quiet bits lcid rlc more why answers.Held = refl
+data_quiet bits lcid rlc more why answers.Stopped = refl
+
+take_told : (bits : ℕ) (b : State) (share : ℕ) (held : Option ℕ) → Gives bits b.pdcp
+    → sizes_in bits (taking b share held) ≡ map length (given_in b (Take share held))
+unfolding taking taken_from
+take_told bits b share held h =
+    let os = offers b.pdcp.tx in
+    let w = feeding b share held in
+    let f = all_fed bits os (size_in share) held (record { pdcp = b.pdcp; tx = b.tx; events = [] }) h refl in
+    let last = data_told w.pdcp.lcid b.bits (has_more w.pdcp) (why_idle w.tx held)
+    (rlc_taken w.tx (size_in share) held) in
+    let off = taken_off f.many os (offers (after_taking b share held).pdcp.tx) f.few
+    (ap (λ (e : Ends). offers e.tx) (take_left b share held) ∙ f.left) in
+    sizes_both bits w.events last
+    ∙ ap (λ (ns : List ℕ). sizes_in bits w.events ++ ns)
+    (data_quiet bits w.pdcp.lcid b.bits (has_more w.pdcp) (why_idle w.tx held)
+    (rlc_taken w.tx (size_in share) held))
+    ∙ append-nil (sizes_in bits w.events)
+    ∙ f.told_is
+    ∙ ap (λ (l : List Offer). map length (map (pdcp_pdu b.pdcp.tx) l)) (sym off)
+
+-- ---- any call
+
+record Tells (l bits : ℕ) (b : State) (c : Call) : Type 0 where
+  own : told_on l (tells_in l (Um b) c) ≡ tells_in l (Um b) c
+  sizes : sizes_in bits (tells_in l (Um b) c) ≡ map length (given_in b c)
+
+flow_taking : (l : ℕ) (b : State) (share : ℕ) (held : Option ℕ) → told l (Um b) share held ≡ taking b share held
+unfolding told
+flow_taking l b share held = refl
+
+tells_so : (l bits : ℕ) (b : State) (c : Call) → IsUmOn l bits b → Tells l bits b c
+tells_so l bits b (Submit sdu) h = record { own = refl; sizes = refl }
+tells_so l bits b (Take share held) h =
+    let k = between l bits b h in
+    record {
+      own = all_on l (told l (Um b) share held)
+          (block_holds (λ e. is_on l e ≡ true) l (writing_on l) (told l (Um b) share held)
+          ((told_in_order l (Um b) k).building share held));
+      sizes = ap (sizes_in bits) (flow_taking l b share held)
+          ∙ take_told bits b share held (record { sending = h.sending; owes_none = h.owes_none });
+    }
+tells_so l bits b (Arrive octets) h =
+    let q = quiet_told bits l (tells_in l (Um b) (Arrive octets))
+    (pdu_holds (IsQuiet bits l) l (hearing_quiet bits l) (tells_in l (Um b) (Arrive octets))
+    ((told_in_order l (Um b) (between l bits b h)).receiving octets)) in
+    record { own = q.0; sizes = q.1 }
+tells_so l bits b (Expire clock) h =
+    let q = quiet_told bits l (tells_in l (Um b) (Expire clock))
+    (expiry_quiet bits l (Um b) clock (between l bits b h)) in
+    record { own = q.0; sizes = q.1 }
+tells_so l bits b Tick h =
+    let q = quiet_told bits l (tells_in l (Um b) Tick)
+    (tti_holds (IsQuiet bits l) l (hearing_quiet bits l) (λ len. (same_on l, refl)) (tells_in l (Um b) Tick)
+    (told_in_order l (Um b) (between l bits b h)).ticking) in
+    record { own = q.0; sizes = q.1 }
+tells_so l bits b (SetDiscard ttis) h = record { own = refl; sizes = refl }
+
+pub um_bearers_tell_own : UmBearersTellOwn
+um_bearers_tell_own l bits b c h =
+    let t = tells_so l bits b c h in
+    record {
+      own = t.own;
+      sizes = t.sizes;
+      reordering = ap reordering_in ((um_bearers_tell_reordering b c).tells_are l);
+    }
