@@ -11,3 +11,4 @@ pub mod UmLivedLaws
 pub mod UmLivedOnAir
 pub mod UmGathered
 pub mod UmGatheredBearers
+pub mod UmGatheredPdus

@@ -4,7 +4,6 @@ use Rattle.std.proofs.Common.{if◌then◌else◌, List, [], ◌∷◌, ◌++◌
 use Rattle.std.proofs.Common.{None, IfSome, option_map, slice_get, unwrap_or, append-nil, append_assoc, refl, ap, sym}
 use Rattle.std.proofs.Common.{subst, ◌∙◌, arith}
 use Rattle.std.specs.List.{AllByRecursion}
-use Rattle.std.proofs.lemmas.Bool.Decides.{nat_tests}
 use Rattle.std.proofs.lemmas.Grind.{flat_map-append}
 use Rattle.eps_sec.specs.declared.Keys.{Keys}
 use Rattle.l2_types.specs.declared.Kind.TheVariants as kinds
@@ -19,8 +18,9 @@ use Rattle.pdcp_sec.proofs.Lengths.{length_ciphered_with}
 use Rattle.pdcp_tx.specs.Pdus.{pdu}
 use Rattle.pdcp_tx.specs.Runs.{Submit as Submits, Take as Takes, Confirm, Report, Owe, Tick as Ticks, Late}
 use Rattle.pdcp_tx.specs.State.{State as Sending, Offer, offers, written, owed_offers, again_offer, new_offers}
-use Rattle.pdcp_tx.specs.State.{taking as pdcp_taking, submitted as pdcp_submitted, took, took_owed, took_again, took_new, confirmed, reported}
-use Rattle.pdcp_tx.specs.State.{reported_from, fms_count, after_late, restarted as restarted_sending, start}
+use Rattle.pdcp_tx.specs.State.{taking as pdcp_taking, submitted as pdcp_submitted, took, took_owed, took_again}
+use Rattle.pdcp_tx.specs.State.{took_new, confirmed, reported, reported_from, fms_count, after_late}
+use Rattle.pdcp_tx.specs.State.{restarted as restarted_sending, start}
 use Rattle.rlc_pdu.specs.declared.outcome.Taken.{Taken}
 use Rattle.rlc_pdu.specs.declared.outcome.Taken.TheVariants as answers
 use Rattle.rlc_um.specs.Sender.{is_hungry, taken as rlc_taken}
@@ -36,19 +36,17 @@ use Rattle.bearer.specs.Unacknowledged.Taking.{Feeding, fed, feeds, feeding, siz
 use Rattle.bearer.specs.Unacknowledged.Taking.{data_told, taking, after_taking}
 use Rattle.bearer.specs.declared.flow.Flow.{Flow}
 use Rattle.bearer.specs.declared.flow.Flow.TheVariants.{Um}
-use Rattle.promises.specs.Events.{is_on, told_on}
 use Rattle.law_pdcp.specs.OneEnd.Lives.{Step, Calls, SetDiscard as SetsDiscard, Restart, goes, run_pdcp_sender}
-use Rattle.law_bearer.specs.AnyBearer.Calls.{Call, Submit, Take, Arrive, Expire, Tick, SetDiscard, after, ends}
+use Rattle.law_bearer.specs.AnyBearer.Calls.{Call, Submit, Take, Arrive, Expire, Tick, SetDiscard, ends}
 use Rattle.law_bearer.specs.AnyBearer.Stream.{pdu_of as pdcp_pdu}
-use Rattle.law_bearer.proofs.AnyBearer.Between.{IsBetween, begins, submits, discards, takes as takes_between, arrives}
-use Rattle.law_bearer.proofs.AnyBearer.Between.{expires, ticks_of, moves}
+use Rattle.law_bearer.proofs.AnyBearer.Between.{IsBetween, begins, moves}
 use Rattle.law_bearer.proofs.AnyBearer.Flows.{taken_off, called as passes}
 use Rattle.law_bearer.proofs.AnyBearer.Parts.{pdcp_took}
 use Rattle.law_bearer.proofs.AnyBearer.Sender.{IsOfLife, AreOfLife, moved_same, same_pdus, took_same, left_of}
 use Rattle.law_bearer.proofs.AnyBearer.Told.{told_in_order}
 use Rattle.law_bearer.proofs.AnyBearer.Unacknowledged.{take_left, stop_ends, restart_is}
-use Rattle.law_deliver.proofs.AmFlow.Events.{OfWriting, block_holds, OfHearing, pdu_holds, expiry_holds, tti_holds}
-use Rattle.law_deliver.proofs.AmFlow.Events.{all_on}
+use Rattle.law_deliver.proofs.AmChannel.Bearers.{between_after}
+use Rattle.law_deliver.proofs.AmFlow.Events.{OfHearing, pdu_holds, expiry_holds, tti_holds, own_told}
 use Rattle.law_deliver.proofs.UmFlow.Sending.{is_called}
 use Rattle.law_deliver.specs.AmFlow.Reordering.{reordering_in}
 use Rattle.law_deliver.specs.AmFlow.Ups.{tells_in}
@@ -61,14 +59,6 @@ use Rattle.law_um.proofs.UmTimers.{um_bearers_tell_reordering}
 
 between : (l bits : ℕ) (b : State) → IsUmOn l bits b → IsBetween l (Um b)
 between l bits b h = record { own = h.own; empty = h.idle }
-
-called_between : (l : ℕ) (f : Flow) (c : Call) → IsBetween l f → IsBetween l (after f c)
-called_between l f (Submit sdu) k = submits l f sdu k
-called_between l f (Take share held) k = takes_between l f share held k
-called_between l f (Arrive octets) k = arrives l f octets k
-called_between l f (Expire clock) k = expires l f clock k
-called_between l f Tick k = ticks_of l f k
-called_between l f (SetDiscard ttis) k = discards l f ttis k
 
 -- ---- no report is owed, as long as none comes to be
 
@@ -119,7 +109,7 @@ pub um_bearers_go_on : UmBearersGoOn
 um_bearers_go_on l bits b c h =
     let one = passes (Um b) b.pdcp c refl in
     let moved = one.passed.tx in
-    let k = subst (IsBetween l) (is_called b c) (called_between l (Um b) c (between l bits b h)) in
+    let k = subst (IsBetween l) (is_called b c) (between_after l (Um b) c (between l bits b h)) in
     let some : Some (called b c).pdcp ≡ Some one.next = ap ends (sym (is_called b c)) ∙ one.is in
     let same : (called b c).pdcp ≡ one.next = cc in
     record {
@@ -156,63 +146,38 @@ um_bearers_live_on l bits b keys h =
       owes_none = ap (λ (e : Ends). e.tx.owed) is ∙ next.2;
     }
 
--- ---- what it tells is of its channel
+-- ---- as it hears it takes no SDU
 
--- and it takes no SDU
-abbrev IsQuiet : ℕ → ℕ → Event → Type 0
-IsQuiet bits m e = (is_on m e ≡ true) × (sizes_told bits e ≡ [])
+abbrev TakesNone : ℕ → Event → Type 0
+TakesNone bits e = sizes_told bits e ≡ []
 
-same_on : (m : ℕ) → (m == m) ≡ true
-same_on m = grind (arith, nat_tests)
+hearing_none : (bits m : ℕ) → OfHearing (TakesNone bits) m
+hearing_none bits m = record {
+  start = λ clock. refl;
+  stop = λ clock. refl;
+  expired = λ clock. refl;
+  up = λ sdu. refl;
+  fail = λ sn. refl;
+  drop = λ why own. refl;
+  integrity = λ found wanted. refl;
+  bad_rlc = λ fault. refl;
+  bad_pdcp = λ fault. refl;
+}
 
-writing_on : (m : ℕ) → OfWriting (λ e. is_on m e ≡ true) m
-writing_on m =
-    let s = same_on m in
-    record {
-      send = λ way sn. s;
-      start = λ clock. s;
-      report = λ fms bitmap. s;
-      take = λ count len. s;
-      wait = λ why. s;
-    }
-
-hearing_quiet : (bits m : ℕ) → OfHearing (IsQuiet bits m) m
-hearing_quiet bits m =
-    let s = same_on m in
-    record {
-      start = λ clock. (s, refl);
-      stop = λ clock. (s, refl);
-      expired = λ clock. (s, refl);
-      up = λ sdu. (s, refl);
-      fail = λ sn. (s, refl);
-      drop = λ why own. (s, refl);
-      integrity = λ found wanted. (s, refl);
-      bad_rlc = λ fault. (s, refl);
-      bad_pdcp = λ fault. (s, refl);
-    }
-
-quiet_told : (bits m : ℕ) (told' : List Event) → AllByRecursion (IsQuiet bits m) told'
-    → (told_on m told' ≡ told') × (sizes_in bits told' ≡ [])
-quiet_told bits m told' h = (all_on m told' (ons told' h), none told' h)
-  where
-    ons : (xs : List Event) → AllByRecursion (IsQuiet bits m) xs → AllByRecursion (λ e. is_on m e ≡ true) xs
-    ons [] p = tt
-    ons (x ∷ xs) p = (p.0.0, ons xs p.1)
-
-    none : (xs : List Event) → AllByRecursion (IsQuiet bits m) xs → sizes_in bits xs ≡ []
-    none [] p = refl
-    none (x ∷ xs) p = ap (λ (ns : List ℕ). ns ++ sizes_in bits xs) p.0.1 ∙ none xs p.1
+none_taken : (bits : ℕ) (xs : List Event) → AllByRecursion (TakesNone bits) xs → sizes_in bits xs ≡ []
+none_taken bits [] p = refl
+none_taken bits (x ∷ xs) p = ap (λ (ns : List ℕ). ns ++ sizes_in bits xs) p.0 ∙ none_taken bits xs p.1
 
 some_told : (P Q : List Event → Type 0) (o : Option (List Event)) → IfSome o P
     → ((told' : List Event) → P told' → Q told') → Q [] → Q (unwrap_or o [])
 some_told P Q None p then' none = none
 some_told P Q (Some told') p then' none = then' told' p
 
-expiry_quiet : (bits m : ℕ) (f : Flow) (clock : Clock) → IsBetween m f
-    → AllByRecursion (IsQuiet bits m) (unwrap_or (expiry f clock) [])
-expiry_quiet bits m f clock k =
-    some_told _ (AllByRecursion (IsQuiet bits m)) (expiry f clock) ((told_in_order m f k).expiring clock)
-    (λ told' p. expiry_holds (IsQuiet bits m) m (hearing_quiet bits m) clock told' p) tt
+expiry_none : (bits m : ℕ) (f : Flow) (clock : Clock) → IsBetween m f
+    → AllByRecursion (TakesNone bits) (unwrap_or (expiry f clock) [])
+expiry_none bits m f clock k =
+    some_told _ (AllByRecursion (TakesNone bits)) (expiry f clock) ((told_in_order m f k).expiring clock)
+    (λ told' p. expiry_holds (TakesNone bits) m (hearing_none bits m) clock told' p) tt
 
 -- ---- RLC takes a PDU of PDCP, which is as long as is told
 
@@ -342,18 +307,18 @@ all_fed bits (o ∷ os) size held w h q =
 
 -- ---- what is told of the PDU that is written
 
-idle_quiet : (bits lcid : ℕ) (more : Bool) (why : Waits) → sizes_in bits (idle_told lcid more why) ≡ []
-idle_quiet bits lcid true why = refl
-idle_quiet bits lcid false why = refl
+idle_none : (bits lcid : ℕ) (more : Bool) (why : Waits) → sizes_in bits (idle_told lcid more why) ≡ []
+idle_none bits lcid true why = refl
+idle_none bits lcid false why = refl
 
-data_quiet : (bits lcid rlc_bits : ℕ) (more : Bool) (why : Waits) (t : Taken)
+data_none : (bits lcid rlc_bits : ℕ) (more : Bool) (why : Waits) (t : Taken)
     → sizes_in bits (data_told lcid rlc_bits more why t) ≡ []
-data_quiet bits lcid rlc more why (answers.Piece number first polled octets) = refl
-data_quiet bits lcid rlc more why answers.Idle = idle_quiet bits lcid more why
-data_quiet bits lcid rlc more why answers.Small = refl
-data_quiet bits lcid rlc more why answers.Shut = refl
-data_quiet bits lcid rlc more why answers.Held = refl
-data_quiet bits lcid rlc more why answers.Stopped = refl
+data_none bits lcid rlc more why (answers.Piece number first polled octets) = refl
+data_none bits lcid rlc more why answers.Idle = idle_none bits lcid more why
+data_none bits lcid rlc more why answers.Small = refl
+data_none bits lcid rlc more why answers.Shut = refl
+data_none bits lcid rlc more why answers.Held = refl
+data_none bits lcid rlc more why answers.Stopped = refl
 
 take_told : (bits : ℕ) (b : State) (share : ℕ) (held : Option ℕ) → Gives bits b.pdcp
     → sizes_in bits (taking b share held) ≡ map length (given_in b (Take share held))
@@ -368,7 +333,7 @@ take_told bits b share held h =
     (ap (λ (e : Ends). offers e.tx) (take_left b share held) ∙ f.left) in
     sizes_both bits w.events last
     ∙ ap (λ (ns : List ℕ). sizes_in bits w.events ++ ns)
-    (data_quiet bits w.pdcp.lcid b.bits (has_more w.pdcp) (why_idle w.tx held)
+    (data_none bits w.pdcp.lcid b.bits (has_more w.pdcp) (why_idle w.tx held)
     (rlc_taken w.tx (size_in share) held))
     ∙ append-nil (sizes_in bits w.events)
     ∙ f.told_is
@@ -376,46 +341,31 @@ take_told bits b share held h =
 
 -- ---- any call
 
-record Tells (l bits : ℕ) (b : State) (c : Call) : Type 0 where
-  own : told_on l (tells_in l (Um b) c) ≡ tells_in l (Um b) c
-  sizes : sizes_in bits (tells_in l (Um b) c) ≡ map length (given_in b c)
-
 flow_taking : (l : ℕ) (b : State) (share : ℕ) (held : Option ℕ) → told l (Um b) share held ≡ taking b share held
 unfolding told
 flow_taking l b share held = refl
 
-tells_so : (l bits : ℕ) (b : State) (c : Call) → IsUmOn l bits b → Tells l bits b c
-tells_so l bits b (Submit sdu) h = record { own = refl; sizes = refl }
-tells_so l bits b (Take share held) h =
-    let k = between l bits b h in
-    record {
-      own = all_on l (told l (Um b) share held)
-          (block_holds (λ e. is_on l e ≡ true) l (writing_on l) (told l (Um b) share held)
-          ((told_in_order l (Um b) k).building share held));
-      sizes = ap (sizes_in bits) (flow_taking l b share held)
-          ∙ take_told bits b share held (record { sending = h.sending; owes_none = h.owes_none });
-    }
-tells_so l bits b (Arrive octets) h =
-    let q = quiet_told bits l (tells_in l (Um b) (Arrive octets))
-    (pdu_holds (IsQuiet bits l) l (hearing_quiet bits l) (tells_in l (Um b) (Arrive octets))
-    ((told_in_order l (Um b) (between l bits b h)).receiving octets)) in
-    record { own = q.0; sizes = q.1 }
-tells_so l bits b (Expire clock) h =
-    let q = quiet_told bits l (tells_in l (Um b) (Expire clock))
-    (expiry_quiet bits l (Um b) clock (between l bits b h)) in
-    record { own = q.0; sizes = q.1 }
-tells_so l bits b Tick h =
-    let q = quiet_told bits l (tells_in l (Um b) Tick)
-    (tti_holds (IsQuiet bits l) l (hearing_quiet bits l) (λ len. (same_on l, refl)) (tells_in l (Um b) Tick)
-    (told_in_order l (Um b) (between l bits b h)).ticking) in
-    record { own = q.0; sizes = q.1 }
-tells_so l bits b (SetDiscard ttis) h = record { own = refl; sizes = refl }
+sizes_are : (l bits : ℕ) (b : State) (c : Call) → IsUmOn l bits b
+    → sizes_in bits (tells_in l (Um b) c) ≡ map length (given_in b c)
+sizes_are l bits b (Submit sdu) h = refl
+sizes_are l bits b (Take share held) h =
+    ap (sizes_in bits) (flow_taking l b share held)
+    ∙ take_told bits b share held (record { sending = h.sending; owes_none = h.owes_none })
+sizes_are l bits b (Arrive octets) h =
+    none_taken bits (tells_in l (Um b) (Arrive octets))
+    (pdu_holds (TakesNone bits) l (hearing_none bits l) (tells_in l (Um b) (Arrive octets))
+    ((told_in_order l (Um b) (between l bits b h)).receiving octets))
+sizes_are l bits b (Expire clock) h =
+    none_taken bits (tells_in l (Um b) (Expire clock)) (expiry_none bits l (Um b) clock (between l bits b h))
+sizes_are l bits b Tick h =
+    none_taken bits (tells_in l (Um b) Tick)
+    (tti_holds (TakesNone bits) l (hearing_none bits l) (λ len. refl) (tells_in l (Um b) Tick)
+    (told_in_order l (Um b) (between l bits b h)).ticking)
+sizes_are l bits b (SetDiscard ttis) h = refl
 
 pub um_bearers_tell_own : UmBearersTellOwn
-um_bearers_tell_own l bits b c h =
-    let t = tells_so l bits b c h in
-    record {
-      own = t.own;
-      sizes = t.sizes;
-      reordering = ap reordering_in ((um_bearers_tell_reordering b c).tells_are l);
-    }
+um_bearers_tell_own l bits b c h = record {
+  own = own_told l l (Um b) (Um b) c refl refl (between l bits b h);
+  sizes = sizes_are l bits b c h;
+  reordering = ap reordering_in ((um_bearers_tell_reordering b c).tells_are l);
+}

@@ -1,8 +1,8 @@
 -- What an unacknowledged bearer tells and writes, and what comes to it, is gathered from a journal
 -- as the histories of both of its flows have it (docs/formats/JOURNAL.md; docs/laws/ACCOUNT.md; TS
 -- 36.322 5.1.2, TS 36.323 5.1.1, 6.2.3).
-use Rattle.std.specs.Prelude.{◌≡◌, ℕ, ◌+◌, ◌==◌, if◌then◌else◌, Bool, true, false, List, [], ◌∷◌, map}
-use Rattle.std.specs.Prelude.{length, Option, Some, None, slice_get, slice_index_or}
+use Rattle.std.specs.Prelude.{◌≡◌, ℕ, ◌+◌, ◌==◌, if◌then◌else◌, Bool, true, false, List, [], ◌∷◌}
+use Rattle.std.specs.Prelude.{map, length, Option, Some, None, slice_get, slice_index_or}
 use Rattle.std.specs.List.{AllByRecursion, flat_map}
 use Rattle.eps_sec.specs.declared.Keys.{Keys}
 use Rattle.l2_types.specs.declared.event.How.TheVariants as hows
