@@ -5,9 +5,12 @@ pub mod UmLossesTold
 pub mod UmSending
 pub mod UmWriting
 pub mod UmTimers
-pub mod UmLived
 pub mod UmLivedPlaces
+pub mod UmLived
 pub mod UmLivedLaws
 pub mod UmLivedOnAir
 pub mod UmReading
 pub mod UmReadingLives
+pub mod UmGathered
+pub mod UmGatheredBearers
+pub mod UmGatheredPdus

@@ -229,7 +229,7 @@ um_bearers_tell_reordering b c =
 
 -- ---- the history
 
-then_events : (xs ys : List UmEvent) (es : List UmLifeEvent)
+pub then_events : (xs ys : List UmEvent) (es : List UmLifeEvent)
     → with_events (xs ++ ys) es ≡ with_events ys (with_events xs es)
 then_events [] ys es = refl
 then_events (x ∷ xs) ys es = then_events xs ys (InLife x ∷ es)

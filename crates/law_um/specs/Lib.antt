@@ -5,3 +5,4 @@ pub mod UmWriting
 pub mod UmTimers
 pub mod UmLived
 pub mod UmReading
+pub mod UmGathered

@@ -15,6 +15,11 @@ ghost use Rattle.law_um.specs.UmLived.{UmUpsAreJoined, UmUpsAreTrue, PdusComeInT
 ghost use Rattle.law_um.specs.UmLived.{UmChannelsAreLived};
 ghost use Rattle.law_um.specs.UmReading.{UmReadersBegin, UmCallsAreRead, UmLivesAreRead};
 ghost use Rattle.law_um.specs.UmReading.{UmEndsAreRead};
+ghost use Rattle.law_um.specs.UmGathered.{UmBearersComeOn, UmBearersGoOn, UmBearersLiveOn};
+ghost use Rattle.law_um.specs.UmGathered.{UmEventsAreGathered, OtherEventsStayAway};
+ghost use Rattle.law_um.specs.UmGathered.{UmToldIsGathered, UmBearersTellOwn, UmCallsAreGathered};
+ghost use Rattle.law_um.specs.UmGathered.{UmPdusAreGathered, UmTakesAreGathered};
+ghost use Rattle.law_um.specs.UmGathered.{UmArrivalsAreGathered};
 
 /// They begin alike.
 pub fn um_outset_is_accounted()
@@ -170,4 +175,28 @@ pub fn um_ups_are_read()
     ensures calls { UmCallsAreRead }
     ensures lives { UmLivesAreRead }
     ensures ends { UmEndsAreRead }
+{}
+
+/// An unacknowledged bearer is one of its channel, and owes no status report: as it comes, behind
+/// each call, and as the next life begins.
+pub fn um_bearers_stay_on()
+    ensures comes { UmBearersComeOn }
+    ensures goes { UmBearersGoOn }
+    ensures lives { UmBearersLiveOn }
+{}
+
+/// What is gathered from a journal of a call of an unacknowledged bearer is what the histories of
+/// its flows have of it. Its events tell the flow that it sends of the PDUs that RLC takes of PDCP,
+/// each with its header, and the flow that comes of t-Reordering; those of other channels tell
+/// neither of anything. The PDU that it writes then has the number and the pieces that the history
+/// of its sender has of it, and a PDU that comes stands before what t-Reordering does then.
+pub fn um_calls_are_gathered()
+    ensures events { UmEventsAreGathered }
+    ensures others { OtherEventsStayAway }
+    ensures told { UmToldIsGathered }
+    ensures own { UmBearersTellOwn }
+    ensures calls { UmCallsAreGathered }
+    ensures writes { UmPdusAreGathered }
+    ensures takes { UmTakesAreGathered }
+    ensures comes { UmArrivalsAreGathered }
 {}
