@@ -1,6 +1,6 @@
 //! What is sent is right as the checker of a journal asks it: the PDUs that a sender of RLC writes,
-//! and what is kept of a channel while they are checked. Each function does nothing: its contract is
-//! the law.
+//! and what is kept of a channel while they are checked. Each function does nothing: its contract
+//! is the law.
 #![tactic(auto)]
 
 mod laws;

@@ -115,7 +115,8 @@ module _ (l lcid : ℕ) (octets : List ℕ) where
       ∙ ap (λ (b : Bool). only b (Submits octets)) at
 
   -- its side's bearer is submitted it, if it is that of the channel
-  pub own_calls : (side : Side) (a : Air) (here : Bool) → refusal lcid octets (end_at side a) ≡ None → (lcid == l) ≡ here
+  pub own_calls : (side : Side) (a : Air) (here : Bool) → refusal lcid octets (end_at side a) ≡ None
+      → (lcid == l) ≡ here
       → calls_of_step l side a (InLife (submits side)) ≡ only here (Submits octets)
   own_calls Nb a here taken at = taken_in a.nb.end here taken at
   own_calls Ue a here taken at = taken_in a.ue.end here taken at

@@ -1,5 +1,5 @@
--- Each record of the journal of a script that forges no block is right in what it sends, as a checker of any journal asks
--- it, on each channel.
+-- Each record of the journal of a script that forges no block is right in what it sends, as a checker of any journal
+-- asks it, on each channel.
 use Rattle.std.proofs.Common.{◌≡◌, ◌<◌, ◌≤◌, inl, inr, ℕ, Bool, true, false, List, [], ◌∷◌, ◌++◌, length, append-nil}
 use Rattle.std.proofs.Common.{append_assoc, Option, Some, None, refl, ap, sym, subst, ◌∙◌}
 use Rattle.std.proofs.lemmas.Bool.{cases_lt}
@@ -237,7 +237,8 @@ module _ (now : Group) (past : List Group) (order : KeepsOrder (now ∷ past)) (
           by : (b : Bool) → is_data f.layout ≡ b → IsOfBearer now past l f → FlowKind l f
           by true e x =
               OfData e x.config
-              (data_kind x.config.kind x.config.rlc_bits x.config.pdcp_bits (ap is_data (sym x.layout_is) ∙ e)) x.is x.low
+              (data_kind x.config.kind x.config.rlc_bits x.config.pdcp_bits (ap is_data (sym x.layout_is) ∙ e)) x.is
+              x.low
           by false e x =
               let of = other_kind x.config.kind x.config.rlc_bits x.config.pdcp_bits
               (ap is_data (sym x.layout_is) ∙ e) in
@@ -254,8 +255,8 @@ module _ (now : Group) (past : List Group) (order : KeepsOrder (now ∷ past)) (
           (subst (LineTells (ttis past) (kinds past) (λ side'. channels past) now.line) are flows_told.order.0) in
           let before = unchanged l now.line (config_of l past) c other config in
           takes_sized [] now past order.0 order.1 none c l low other
-          (sending_behind (now ∷ []) l past c order.1 kind before apart.1 (tells_before now past flows_told)) told others
-          one are side count
+          (sending_behind (now ∷ []) l past c order.1 kind before apart.1 (tells_before now past flows_told)) told
+          others one are side count
 
       -- ---- events
 
@@ -305,7 +306,8 @@ module _ (now : Group) (past : List Group) (order : KeepsOrder (now ∷ past)) (
           (pick : (acked : ℕ → Bool) (how : How) (passed : Option (List ℕ)) (octets : List ℕ) (f : Flow)
           → IsRightPdu acked how passed octets f → right acked how passed octets f) where
         block_right : (direction : Direction) (process version : ℕ) (octets : List ℕ)
-            → one ≡ records.Block direction process true version octets → InBlock right direction octets j (settled one s)
+            → one ≡ records.Block direction process true version octets
+            → InBlock right direction octets j (settled one s)
         block_right direction process version octets is =
             right_on_all right direction octets j (settled one s)
             (λ l f there.

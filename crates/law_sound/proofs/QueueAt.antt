@@ -1,5 +1,6 @@
--- Behind records of a group, on a channel whose bearers aren't of acknowledged data: what is kept of the flows that both
--- sides send, while the PDUs of the journal are checked, stands beside both ends; each record is right on the channel.
+-- Behind records of a group, on a channel whose bearers aren't of acknowledged data: what is kept of the flows that
+-- both sides send, while the PDUs of the journal are checked, stands beside both ends; each record is right on the
+-- channel.
 use Rattle.std.proofs.Common.{◌≡◌, ◌<◌, ◌≤◌, ℕ, true, List, [], ◌∷◌, ◌++◌, length, Some, None}
 use Rattle.std.specs.List.{AllByRecursion}
 use Rattle.air_record.specs.declared.record.Record.{Record}

@@ -1,7 +1,8 @@
--- The PDU of a transparent bearer in a new block, as its `send` record names it: the SDU that is taken just before, since
--- what an end tells of a block stands together, and so does what each of its bearers tells (TS 36.322 5.1.1.1).
+-- The PDU of a transparent bearer in a new block, as its `send` record names it: the SDU that is taken just before,
+-- since what an end tells of a block stands together, and so does what each of its bearers tells (TS 36.322 5.1.1.1).
 use Rattle.std.proofs.Common.{◌≡◌, ℕ, ◌-◌, ◌==◌, ◌&&◌, ◌||◌, not, Bool, true, false, if◌then◌else◌, Option, Some, None}
-use Rattle.std.proofs.Common.{List, is_none, [], ◌∷◌, ◌++◌, map, length, append-nil, append_assoc, refl, ap, sym, subst, ◌∙◌, arith}
+use Rattle.std.proofs.Common.{List, is_none, [], ◌∷◌, ◌++◌, map, length, append-nil, append_assoc, refl, ap, sym}
+use Rattle.std.proofs.Common.{subst, ◌∙◌, arith}
 use Rattle.std.specs.List.{AllByRecursion}
 use Rattle.std.proofs.lemmas.Bool.{eq-eqb}
 use Rattle.std.proofs.lemmas.List.{length-append, map-append}
@@ -142,7 +143,8 @@ module _ (e : End) (grant l : ℕ) (there : has l e.bearers ≡ true) where
 
   channel_told : (c : Channel) → c.lcid ≡ l → told_on_channel e grant c ≡ own_told
   channel_told c same =
-      ap (λ (n : ℕ). if has n e.bearers then tells_of_taking n (flow n e) (share_of e grant n) (held_of e n) else []) same
+      ap (λ (n : ℕ). if has n e.bearers
+      then tells_of_taking n (flow n e) (share_of e grant n) (held_of e n) else []) same
       ∙ ap (λ (b : Bool). if b then own_told else []) there
 
   pub told_together : (cs : List Channel) → has_channel l cs ≡ true → TellsAt (all_told e grant cs) own_told

@@ -1,5 +1,5 @@
--- A step of a life in which no bearer of a channel writes, none being of acknowledged data: what is kept of the flow that
--- each side sends goes on beside the bearers, and each record is right.
+-- A step of a life in which no bearer of a channel writes, none being of acknowledged data: what is kept of the flow
+-- that each side sends goes on beside the bearers, and each record is right.
 use Rattle.std.proofs.Common.{◌≡◌, ◌≤◌, ℕ, Some, None, List, [], ◌++◌, ap, sym, subst, ◌∙◌, ◌⊎◌, inl, inr}
 use Rattle.std.specs.List.{AllByRecursion, flat_map}
 use Rattle.air_record.specs.declared.record.Record.{Record}

@@ -202,7 +202,8 @@ event_over : (l : ℕ) (side : Side) (e : Event) (j : Given) (f : Flow) → is_d
     → event_on side l e j f ≡ queue_over (told_on l (if not (is_of_loop e) then e ∷ [] else [])) f
 event_over l side (events.Take lcid count len) j f plain =
     let sdu = sdu_of given.histories side l count j in
-    if_over (lcid == l) (flow_taken histories count len sdu) (events.Take lcid count len) f (by (is_data f.layout) plain)
+    if_over (lcid == l) (flow_taken histories count len sdu) (events.Take lcid count len) f
+    (by (is_data f.layout) plain)
   where
     by : (b : Bool) → b ≡ false
         → (if b then gives_data histories count (sdu_of given.histories side l count j) f

@@ -1,5 +1,5 @@
--- The flow that is kept of a channel, while the PDUs of a journal are checked, stands where the line of its bearer stands
--- before, and has its layout.
+-- The flow that is kept of a channel, while the PDUs of a journal are checked, stands where the line of its bearer
+-- stands before, and has its layout.
 use Rattle.std.proofs.Common.{◌≡◌, ◌≤◌, inl, inr, ℕ, ◌==◌, Bool, true, false, if◌then◌else◌, List, [], ◌∷◌}
 use Rattle.std.proofs.Common.{option_map, Option, Some, None, refl, ap, sym, subst, ◌∙◌}
 use Rattle.std.proofs.lemmas.Bool.{eqb-true, cases_lt}

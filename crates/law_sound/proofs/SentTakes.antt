@@ -35,7 +35,8 @@ use Rattle.law_sound.proofs.SentSizes.{AreSized, sized_over}
 use Rattle.law_sound.proofs.SentSubmitted.{all_sized}
 
 module _ (newer : List Group) (now : Group) (past : List Group) (right : IsRight past now) (order : KeepsOrder past)
-    (none : submitted_by now.line ≡ None) (c : BearerConfig) (l : ℕ) (low : l ≤ 10) (other : adds_one l now.line ≡ false)
+    (none : submitted_by now.line ≡ None) (c : BearerConfig) (l : ℕ) (low : l ≤ 10)
+    (other : adds_one l now.line ≡ false)
     (h : GoesSending (newer ++ now ∷ past) c l past) where
   -- so have those that come back through the test loop
   loops_sized : AllByRecursion IsSdu (loops_in l now.events)

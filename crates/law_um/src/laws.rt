@@ -167,9 +167,9 @@ pub fn um_channels_are_lived()
     ensures { UmChannelsAreLived }
 {}
 
-/// What goes up of unacknowledged data at a bearer is what PDCP reads, as a checker of journals asks
-/// it, of the SDUs that RLC hands up: from the outset on, in each call, through a life, and as it
-/// ends, behind which the next one begins with COUNT 0 under other keys.
+/// What goes up of unacknowledged data at a bearer is what PDCP reads, as a checker of journals
+/// asks it, of the SDUs that RLC hands up: from the outset on, in each call, through a life, and as
+/// it ends, behind which the next one begins with COUNT 0 under other keys.
 pub fn um_ups_are_read()
     ensures begins { UmReadersBegin }
     ensures calls { UmCallsAreRead }
